@@ -1,0 +1,12 @@
+// What a line is, and the line store by its meaning.
+mod check;
+mod fault;
+mod store;
+
+pub use check::check_line;
+pub use check::is_line;
+pub use fault::StoreFault;
+pub use store::LINE_LIMIT;
+pub use store::LineBuffer;
+pub use store::LineStore;
+pub use store::STORE_LIMIT;
