@@ -1,0 +1,2 @@
+pub mod ByDigit
+pub mod RightAligned
