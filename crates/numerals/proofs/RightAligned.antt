@@ -10,8 +10,8 @@ use Rattle.std.proofs.shelf.Decimals.{decimal-digit, decimal-step, decimal-some
 use lib.IntN.{ℤ, pos, negsuc, natAbs}
 use lib.Signed.{_<ℤ_, _≤ℤ_}
 use Rattle.std.proofs.shelf.Signed.{ints}
-use Rattle.numerals.specs.Fields.{field, placed}
-use Rattle.std.proofs.shelf.Lists.{length-append, take-append-le, drop-at, drop-more, length-take-le, length-replicate, set-append-right, replicate-more, append-assoc, length-push, drop-set, take-set, take-take, take-append-drop}
+use Rattle.numerals.specs.Fields.{field, placed, Field-law}
+use Rattle.std.proofs.shelf.Lists.{length-append, take-append-le, drop-at, drop-more, length-take-le, length-replicate, set-append-right, replicate-more, append-assoc, length-push, drop-set, take-set, take-take, take-append-drop, drop-append-le, drop-replicate, length-drop}
 
 pub count-one : (n : ℕ) → n < 10 → length (decimal n) ≡ 1
 count-one n h = ap length (decimal-digit n h)
@@ -99,9 +99,21 @@ stands-above base row from end z up n e =
     let s = signed-above z up in
     (ap (λ l. from + length l) s ∙ n, e ∙ ap (λ l. take from base ++ (l ++ drop end base)) (sym s))
 
+-- a field that its number fits into
+pub holds : (width : ℕ) (z : ℤ) → length (signed z) ≤ width → field width z ≡ replicate (width - length (signed z)) 32 ++ signed z
+holds width z h =
+    let n = length-replicate {A = ℕ} width 32 in
+    drop-append-le (length (signed z)) (replicate width 32) (signed z) (omega arith) ∙ ap (λ l. l ++ signed z) (drop-replicate (length (signed z)) width 32)
+
+pub law : Field-law
+law = record {
+  wide = λ width z. simp (length-drop, length-append, length-replicate) (omega arith);
+  holds = holds;
+}
+
 -- spaces before it make it the field
 pub padded : (base row last : List ℕ) (at width from : ℕ) (z : ℤ) → at ≤ from → at + width ≤ length base → Stands base row from (at + width) z → last ≡ take at row ++ (replicate (from - at) 32 ++ drop from row) → last ≡ placed base at width z
 padded base row last at width from z h l s e =
     let b : from ≤ length base = omega arith in
     let n : from - at ≡ width - length (signed z) = omega arith in
-    e ∙ (λ i. before base row _ at from h b (s .1) i ++ (replicate (n i) 32 ++ behind base row _ from b (s .1) i)) ∙ ap (λ t. take at base ++ t) (sym (append-assoc (replicate (width - length (signed z)) 32) (signed z) (drop (at + width) base)))
+    e ∙ (λ i. before base row _ at from h b (s .1) i ++ (replicate (n i) 32 ++ behind base row _ from b (s .1) i)) ∙ ap (λ t. take at base ++ t) (sym (append-assoc (replicate (width - length (signed z)) 32) (signed z) (drop (at + width) base))) ∙ ap (λ f. take at base ++ (f ++ drop (at + width) base)) (sym (holds width z (omega arith)))

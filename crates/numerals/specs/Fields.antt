@@ -1,7 +1,8 @@
 -- A number at the right end of a field of a row. Assumes nothing.
 use mathlib.Core.Bool.{cond}
 use mathlib.Core.List.{List, _++_}
-use Prim.Native.Nat.{ℕ, _+_, _-_}
+use mathlib.Core.Path.{_≡_}
+use Prim.Native.Nat.{ℕ, _+_, _-_, _≤_}
 use lib.Dec.{ltb}
 use lib.IntN.{ℤ}
 use lib.ListN.{length, take, drop, replicate}
@@ -11,9 +12,15 @@ use Rattle.std.specs.declared.result.Result.the-variants.{Ok, Err}
 use Rattle.numerals.specs.declared.write.FieldFault.{FieldFault}
 use Rattle.numerals.specs.declared.write.FieldFault.the-variants.{Outside, TooWide}
 
--- spaces, then a minus where the number is below 0, then its shortest decimal digits
+-- right-aligned: the last bytes of spaces and the number, as many as the field is wide
 abbrev pub field : ℕ → ℤ → List ℕ
-field width z = replicate (width - length (signed z)) 32 ++ signed z
+field width z = drop (length (signed z)) (replicate width 32 ++ signed z)
+
+-- every field is as wide as it is said to be, and one that its number fits into holds spaces, then a minus where the number is
+-- below 0, then its shortest decimal digits
+pub record Field-law : Type 0 where
+  pub wide : (width : ℕ) (z : ℤ) → length (field width z) ≡ width
+  pub holds : (width : ℕ) (z : ℤ) → length (signed z) ≤ width → field width z ≡ replicate (width - length (signed z)) 32 ++ signed z
 
 -- the row with the field in it, from a column on
 abbrev pub placed : List ℕ → ℕ → ℕ → ℤ → List ℕ

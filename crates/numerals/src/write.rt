@@ -5,7 +5,7 @@ ghost use Prim.Native.Nat.{_+_, _-_, _≤_};
 ghost use lib.ListN.{length, take, drop, replicate};
 ghost use Rattle.std.specs.Results.{isOk};
 ghost use Rattle.std.specs.Written.{decimal, signed};
-ghost use Rattle.numerals.specs.Fields.{placed, verdict};
+ghost use Rattle.numerals.specs.Fields.{placed, verdict, Field-law};
 
 // Why a number is not put into a row.
 #[derive(Clone, Copy, PartialEq, Eq, Debug)]
@@ -73,6 +73,7 @@ fn put_spaces(row: &mut [u8], from: usize, to: usize)
 pub fn put_number(row: &mut [u8], at: usize, width: usize, v: i32) -> Result<(), FieldFault>
     ensures verdict { λ r. ⌜ r ≡ verdict (length (now (row .entry))) at width v ⌝ }
     ensures row { λ r. ⌜ now (row .exit) ≡ cond (isOk r) (placed (now (row .entry)) at width v) (now (row .entry)) ⌝ }
+    ensures law { λ _. ⌜ Field-law ⌝ }
 {
     if width > row.len() || at > row.len() - width {
         return Err(FieldFault::Outside);

@@ -1,4 +1,5 @@
-use mathlib.Core.Path.{_≡_, ap, subst, sym, _∙_}
+use mathlib.Core.Path.{_≡_, refl, ap, subst, sym, _∙_}
+use borrow.Author.Needs.{needs}
 use Prim.Native.Nat.{_+_, _<_, _≤_}
 use native.Mathlib.Omega.{arith}
 use borrow.Author.Tests.{le-ltb}
@@ -9,7 +10,7 @@ use mir.Syntax.{w32}
 use mir.Val.{toZ, ofZ}
 use Rattle.std.specs.Written.{decimal, signed}
 use Rattle.std.proofs.shelf.Signed.{ints, toZ-ofZ}
-use Rattle.numerals.proofs.RightAligned.{Stands, signed-below, stands-below, stands-above, padded}
+use Rattle.numerals.proofs.RightAligned.{Stands, signed-below, stands-below, stands-above, padded, law}
 use Rattle.numerals.proofs.write.put_number.Needs as need
 use Rattle.numerals.proofs.write.put_number.Needs.{then-v-lt0, else-v-lt0}
 
@@ -37,4 +38,11 @@ returns c =
     record {
       verdict = simp (le-ltb (length base) end room, le-ltb (c .args .width) (length (signed v)) size);
       row = padded base (c .if-v-lt0 .row) _ (c .args .at) (c .args .width) (c .if-v-lt0 .from) v (omega arith) room stands (c .put-spaces .ensures);
+      law = law;
     }
+
+pub returns-then-width-row : need.returns-then-width-row
+returns-then-width-row c = record { verdict = search needs; row = refl; law = law }
+
+pub returns-then-number-size-width : need.returns-then-number-size-width
+returns-then-number-size-width c = record { verdict = search needs; row = refl; law = law }
