@@ -1,10 +1,9 @@
 -- Steps of the numberer: their rows are rows, and what the code computes is the turn and the stop. Assumes nothing.
 use mathlib.Core.Path.{_≡_, refl, sym, ap, _∙_}
-use mathlib.Core.Bool.{Bool, true, false, cond, _&&_}
+use mathlib.Core.Bool.{Bool, true, false, cond}
 use mathlib.Core.List.{List, [], _∷_, _++_}
 use Prim.Native.Nat.{ℕ, _+_, _-_, _≤_, _<_}
 use native.Mathlib.Omega.{arith}
-use borrow.Author.Tests.{leb-true, leb-false}
 use lib.Dec.{leb}
 use lib.IntN.{ℤ, pos, negsuc, natAbs, _+ℤ_}
 use lib.ListN.{length, take, drop, replicate}
@@ -16,7 +15,8 @@ use Rattle.std.proofs.shelf.Lists.{length-append, length-replicate, length-take
 use Rattle.std.proofs.shelf.Results.{cases-at-some}
 use Rattle.std.proofs.shelf.Signed.{ints}
 use Rattle.std.proofs.shelf.Ways.{tells}
-use Rattle.line.specs.Lines.{Line, is-line, all-printable, line-limit}
+use Rattle.line.specs.Lines.{Line, is-line}
+use Rattle.line.proofs.Short.{line-short}
 use Rattle.engine.specs.Model.{Row, Stepped, Stepped.goes, Sized, SizedStep, no-line}
 use Rattle.division.specs.declared.divisor.Divisor.{Divisor}
 use Rattle.division.specs.Floor.{quotient, remainder}
@@ -70,14 +70,6 @@ sized-obeyed m n (text t) p h = sized-printed m t (omega arith)
 sized-obeyed m n (directive SetNumber v) p h = record { few = omega arith; wide = tt }
 sized-obeyed m n (directive SetStops v) p h = record { few = omega arith; wide = tt }
 sized-obeyed m n (malformed cause column) p h = tt
-
--- a line is short
-pub line-short : (l : Line) → is-line l ≡ true → length l ≤ 120
-line-short l e = leb-true (length l) 120 (left (leb (length l) line-limit) (all-printable l) e)
-  where
-    left : (a b : Bool) → a && b ≡ true → a ≡ true
-    left true b e = refl
-    left false b e = e
 
 pub sized-step : (m : Numbering) (l : Line) → SizedStep (numbering .step m l)
 sized-step m l = at (is-line l) refl

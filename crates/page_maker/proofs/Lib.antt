@@ -1,0 +1,4 @@
+pub mod Rows
+pub mod Items
+pub mod Underway
+pub mod Making
