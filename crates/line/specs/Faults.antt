@@ -1,9 +1,10 @@
 -- The faults of a line store: the number and the values of each, and which of them a line has. Assumes nothing.
 use mathlib.Core.Bool.{cond}
-use mathlib.Core.List.{List, [], _∷_}
+use mathlib.Core.List.{List, [], _∷_, _++_}
 use Prim.Native.Nat.{ℕ}
 use lib.Dec.{leb}
 use lib.ListN.{length}
+use Rattle.std.specs.Written.{decimal}
 use Rattle.std.specs.declared.option.Option.{Option}
 use Rattle.std.specs.declared.option.Option.the-variants.{Some, None}
 use Rattle.line.specs.declared.fault.StoreFault.{StoreFault}
@@ -21,6 +22,11 @@ values (NoLine line count) = line ∷ count ∷ []
 values (TooLong length) = length ∷ []
 values (BadByte column) = column ∷ []
 values (Full charges capacity) = charges ∷ capacity ∷ []
+
+-- a refusal as text: its number and its values, one space between two
+abbrev pub told : ℕ → List ℕ → List ℕ
+told n [] = decimal n
+told n (v ∷ vs) = decimal n ++ (32 ∷ told v vs)
 
 -- the upper row of the table of faults counts first
 abbrev pub or-else : Option StoreFault → Option StoreFault → Option StoreFault

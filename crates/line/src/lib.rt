@@ -2,6 +2,7 @@
 mod check;
 mod fault;
 mod store;
+mod tell;
 
 pub use check::check_line;
 pub use check::is_line;
@@ -10,3 +11,4 @@ pub use store::LINE_LIMIT;
 pub use store::LineBuffer;
 pub use store::LineStore;
 pub use store::STORE_LIMIT;
+pub use tell::StoreFaultDisplay;

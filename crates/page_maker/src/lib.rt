@@ -19,6 +19,7 @@ use page_rule::PAGE_ROWS;
 
 mod fault;
 mod made;
+mod tell;
 
 pub use fault::LineFault;
 pub use fault::PageFault;
@@ -27,6 +28,7 @@ use made::Filling;
 pub use made::Made;
 use made::Placed;
 pub use made::Position;
+pub use tell::PageFaultDisplay;
 
 // The body of a page: 40 rows of 72 bytes.
 pub type Body = [u8; BODY_BYTES];
