@@ -1,3 +1,4 @@
 pub mod Pages
 pub mod Filling
 pub mod Formatting
+pub mod Steps
