@@ -60,7 +60,10 @@ fn parse_words(rt: &LibcRuntime) -> Result<Command, AnyError> {
         return Ok(Command::Help);
     }
     if first.as_str() != "number" {
-        let message = format!(rt.alloc(), "there is no engine `{first}`; the engine is `number`")?;
+        let message = format!(
+            rt.alloc(),
+            "there is no engine `{first}`; the engine is `number`"
+        )?;
         return Err(message.into());
     }
     if words.next().is_some() {
@@ -88,10 +91,7 @@ fn read_log(rt: &LibcRuntime, file: Option<String>) -> Result<Vec<u8>, AnyError>
 }
 
 // The lines of the log, in a store of their own.
-fn stored(
-    rt: &LibcRuntime,
-    log: &[u8],
-) -> Result<Result<SlotStore, StoreFault>, AnyError> {
+fn stored(rt: &LibcRuntime, log: &[u8]) -> Result<Result<SlotStore, StoreFault>, AnyError> {
     let lines = split_lines(rt.alloc(), log)?;
     let mut store = SlotStore::new(rt.alloc(), SLOTS)?;
     match load_lines(&mut store, lines.as_slice()) {
@@ -127,7 +127,7 @@ fn print_pages<E: Engine>(
             }
         }
     }
-    Ok(None)
+    Err("there are more pages than the limit".into())
 }
 
 // Whether the log was accepted.
