@@ -3,7 +3,7 @@ ghost use mathlib.Core.Path.{_≡_};
 ghost use mathlib.Core.Bool.{false};
 ghost use Rattle.std.specs.Orderings.{Decides};
 ghost use Rattle.line.specs.Lines.{Line, is-line};
-ghost use Rattle.engine.specs.Model.{Model, Sized, SizedStep, no-line};
+ghost use Rattle.engine.specs.Model.{Model, Sized, SizedStep, no-line, row-width, step-rows};
 ghost use Rattle.engine.specs.Promise.{StepGives, CloseGives};
 
 // The bytes of a row.
@@ -11,6 +11,19 @@ pub const ROW_WIDTH: usize = 72;
 
 // The most rows that a step or a close gives.
 pub const STEP_ROWS: usize = 4;
+
+// The width of a row and the most rows of a step, as the definitions have them.
+pub fn row_width() -> usize
+    ensures { λ r. ⌜ r ≡ row-width ⌝ }
+{
+    ROW_WIDTH
+}
+
+pub fn step_rows() -> usize
+    ensures { λ r. ⌜ r ≡ step-rows ⌝ }
+{
+    STEP_ROWS
+}
 
 // Step and close write their rows to the front of such a buffer.
 pub type RowBuffer = [u8; STEP_ROWS * ROW_WIDTH];

@@ -1,11 +1,11 @@
 -- Which edits a store refuses, by what its code has tested, and that an edited list is one of lines. Assumes nothing.
 use mathlib.Core.Path.{_≡_, refl, sym, ap, _∙_}
 use mathlib.Core.Bool.{Bool, true, false, cond, not, _&&_}
-use mathlib.Core.List.{List, [], _∷_, _++_}
-use Prim.Native.Nat.{ℕ, suc, _+_, _≤_, _<_}
+use mathlib.Core.List.{List, _∷_}
+use Prim.Native.Nat.{ℕ, suc, _≤_, _<_}
 use native.Mathlib.Omega.{arith}
 use lib.Dec.{leb, ltb}
-use lib.ListN.{length, take, drop, set, getD}
+use lib.ListN.{length, take, drop, set}
 use Rattle.std.specs.Holes.{inserted, removed}
 use Rattle.std.specs.Options.{isSome}
 use Rattle.std.specs.shelf.Lists.{All}
@@ -14,12 +14,13 @@ use Rattle.std.specs.declared.option.Option.the-variants.{Some, None}
 use Rattle.std.proofs.shelf.Lists.{length-set}
 use Rattle.std.proofs.shelf.Edits.{length-inserted, length-removed}
 use Rattle.std.proofs.shelf.Elements.{all-append, all-set, all-take, all-drop}
+use Rattle.std.proofs.shelf.Tests.{and-parts, leb-true}
 use Rattle.std.proofs.shelf.Ways.{tells}
 use Rattle.line.specs.declared.fault.StoreFault.{StoreFault}
 use Rattle.line.specs.declared.fault.StoreFault.the-variants.{NoLine, Full}
-use Rattle.line.specs.Lines.{Line, is-line}
+use Rattle.line.specs.Lines.{Line, line-limit, all-printable, is-line}
 use Rattle.line.specs.Faults.{or-else, line-fault}
-use Rattle.line.specs.Stores.{store-limit, charges, Edit, Edit.replace as replace, Edit.insert as insert, Edit.remove as remove, edited, place-fault, text-fault, full-fault, edit-fault}
+use Rattle.line.specs.Stores.{store-limit, charges, Edit, Edit.replace as replace, Edit.insert as insert, Edit.remove as remove, place-fault, text-fault, full-fault, edit-fault}
 use Rattle.line.proofs.Columns.{fault-or-line}
 use Rattle.line.proofs.Charges.{charges-removed}
 
@@ -33,6 +34,10 @@ line-from-none bytes e =
     let P : Bool → Type 0 = λ b. false ≡ not b → b ≡ true in
     let both : (b : Bool) → P b = λ b. elim b as P [ true ↦ (λ _. refl) | false ↦ (λ h. h) ] in
     both (is-line bytes) h
+
+-- what a line says of its length
+pub line-short : (l : Line) → is-line l ≡ true → length l ≤ line-limit
+line-short l h = leb-true (length l) line-limit (and-parts (leb (length l) line-limit) (all-printable l) h .0)
 
 pub lines-inserted : (ls : List Line) (at : ℕ) (line : Line) → is-line line ≡ true → Lines ls → Lines (inserted ls at line)
 lines-inserted ls at line h all =

@@ -1,12 +1,12 @@
 -- Parts of bytes over which others were written. Assumes nothing.
-use mathlib.Core.Path.{_≡_, refl, sym, ap, _∙_}
+use mathlib.Core.Path.{_≡_, sym, ap, _∙_}
 use mathlib.Core.List.{List, [], _∷_, _++_}
 use Prim.Native.Nat.{ℕ, suc, _+_, _-_, _≤_, _<_}
 use native.Mathlib.Omega.{arith}
 use lib.ListN.{length, take, drop, set}
 use lib.Seq.{paste, drop-paste, take-length}
 use borrow.Rule.Slice.PartMut.{putMid}
-use Rattle.std.proofs.shelf.Lists.{append-assoc, drop-drop, drop-take, drop-at, take-take, take-append-le, length-take, length-drop, length-append, take-more-set, drop-set-lt}
+use Rattle.std.proofs.shelf.Lists.{append-assoc, drop-drop, drop-take, drop-at, take-take, take-append-le, length-take, length-append, take-more-set, drop-set-lt}
 
 -- n bytes of s are written over d from a place on
 module _ (d s : List ℕ) (at n : ℕ) (h : at ≤ length d) (l : n ≤ length s) where

@@ -6,12 +6,17 @@ ghost use Rattle.line.specs.Faults.{line-fault};
 use super::fault::StoreFault;
 use super::store::LINE_LIMIT;
 
+// The bytes that a line may hold lie between these.
+const FIRST_BYTE: u8 = 32;
+
+const LAST_BYTE: u8 = 126;
+
 // The column of the first byte that a line may not hold.
 fn bad_column(bytes: &[u8]) -> Option<usize>
     ensures { λ r. ⌜ r ≡ bad-from 0 (now (bytes .entry)) ⌝ }
 {
     for (column, byte) in bytes.iter().enumerate() {
-        if *byte < 32 || *byte > 126 {
+        if *byte < FIRST_BYTE || *byte > LAST_BYTE {
             return Some(column);
         }
     }

@@ -3,7 +3,7 @@ ghost use mathlib.Core.List.{List};
 ghost use Prim.Native.Nat.{ℕ};
 ghost use lib.ListN.{length};
 ghost use Rattle.line.specs.Lines.{Line};
-ghost use Rattle.line.specs.Stores.{Kept, ReadGives, EditGives, Edit, Edit.replace as replaces, Edit.insert as inserts, Edit.remove as removes};
+ghost use Rattle.line.specs.Stores.{store-limit, Kept, ReadGives, EditGives, Edit, Edit.replace as replaces, Edit.insert as inserts, Edit.remove as removes};
 use super::fault::StoreFault;
 
 // The most bytes of a line.
@@ -11,6 +11,13 @@ pub const LINE_LIMIT: usize = 120;
 
 // The most lines of a store.
 pub const STORE_LIMIT: usize = 4096;
+
+// The most lines of a store, as the definitions have it.
+pub fn store_limit() -> usize
+    ensures { λ r. ⌜ r ≡ store-limit ⌝ }
+{
+    STORE_LIMIT
+}
 
 // A line is read to the front of such a buffer.
 pub type LineBuffer = [u8; LINE_LIMIT];

@@ -16,7 +16,7 @@ use Rattle.std.proofs.shelf.Results.{cases-at-some}
 use Rattle.std.proofs.shelf.Signed.{ints}
 use Rattle.std.proofs.shelf.Ways.{tells}
 use Rattle.line.specs.Lines.{Line, is-line}
-use Rattle.line.proofs.Short.{line-short}
+use Rattle.line.proofs.Edits.{line-short}
 use Rattle.engine.specs.Model.{Row, Stepped, Stepped.goes, Sized, SizedStep, no-line}
 use Rattle.division.specs.declared.divisor.Divisor.{Divisor}
 use Rattle.division.specs.Floor.{quotient, remainder}

@@ -1,8 +1,8 @@
 -- What writing a line and moving slots makes of the lines. Assumes nothing.
-use mathlib.Core.Path.{_≡_, refl, sym, ap, _∙_}
-use mathlib.Core.List.{List, [], _∷_, _++_}
+use mathlib.Core.Path.{_≡_, sym, ap, _∙_}
+use mathlib.Core.List.{List, [], _∷_}
 use mathlib.Core.Logic.{_≢_, ⊎-elim}
-use Prim.Native.Nat.{ℕ, zero, suc, _+_, _-_, _*_, _≤_, _<_}
+use Prim.Native.Nat.{ℕ, suc, _+_, _-_, _*_, _≤_, _<_}
 use native.Mathlib.Omega.{arith}
 use lib.ListN.{length, take, drop, getD, set}
 use lib.Seq.{length-paste, take-length}
@@ -13,7 +13,7 @@ use Rattle.std.proofs.shelf.Tests.{cases-order, cases-lt, cases-eq}
 use Rattle.line.specs.Lines.{Line, line-limit}
 use Rattle.line.proofs.Pastes.{part-below, part-above, part-inside}
 use Rattle.slot_store.specs.Slots.{slot-size, slot-at, slot-line, slots-of, with-line, with-slots}
-use Rattle.slot_store.proofs.Slots.{length-slots, getD-slots, length-byte, slot-part}
+use Rattle.slot_store.proofs.Slots.{length-slots, getD-slots, slot-part}
 
 -- two stores whose slots hold the same lines
 same-slots : (n : ℕ) (bytes : List ℕ) (ls : List Line) → length ls ≡ n → ((i : ℕ) → i < n → slot-line (slot-at bytes i) ≡ getD ls i []) → slots-of n bytes ≡ ls

@@ -1,16 +1,15 @@
 -- The lines in slots, one by one. Assumes nothing.
-use mathlib.Core.Path.{_≡_, refl, sym, ap, _∙_}
+use mathlib.Core.Path.{_≡_, refl, ap, _∙_}
 use mathlib.Core.Bool.{true}
-use mathlib.Core.List.{List, [], _∷_, _++_}
-use Prim.Native.Nat.{ℕ, zero, suc, _+_, _-_, _*_, _≤_, _<_}
+use mathlib.Core.List.{List, []}
+use Prim.Native.Nat.{ℕ, zero, suc, _+_, _*_, _≤_, _<_}
 use native.Mathlib.Omega.{arith}
-use lib.Dec.{leb}
 use lib.ListN.{length, take, drop, getD}
 use Rattle.std.specs.shelf.Lists.{All}
 use Rattle.std.proofs.shelf.Lists.{drop-drop, drop-take, take-take, length-take, length-drop, getD-take, getD-drop}
 use Rattle.std.proofs.shelf.Elements.{all-getD, all-from-getD}
-use Rattle.std.proofs.shelf.Tests.{and-parts, leb-true}
-use Rattle.line.specs.Lines.{Line, line-limit, all-printable, is-line}
+use Rattle.line.specs.Lines.{Line, line-limit, is-line}
+use Rattle.line.proofs.Edits.{line-short}
 use Rattle.slot_store.specs.Slots.{slot-size, slot-at, slot-line, slots-of, Held}
 
 pub length-slots : (n : ℕ) (bytes : List ℕ) → length (slots-of n bytes) ≡ n
@@ -34,10 +33,6 @@ held-all n bytes h =
 pub all-held : (n : ℕ) (bytes : List ℕ) → All (λ (l : Line). is-line l ≡ true) (slots-of n bytes) → Held n bytes
 all-held n bytes all i h =
     rw (getD-slots n bytes i h) at (all-getD (λ (l : Line). is-line l ≡ true) (slots-of n bytes) i [] (omega (arith, length-slots n bytes)) all)
-
--- what a line says of its length
-pub line-short : (l : Line) → is-line l ≡ true → length l ≤ line-limit
-line-short l h = leb-true (length l) line-limit (and-parts (leb (length l) line-limit) (all-printable l) h .0)
 
 module _ (bytes : List ℕ) (i : ℕ) (whole : slot-size * i + slot-size ≤ length bytes) where
   pub length-byte : getD (slot-at bytes i) 0 0 ≡ getD bytes (slot-size * i) 0

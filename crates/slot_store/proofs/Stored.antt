@@ -1,18 +1,17 @@
 -- The lines of a store whose memory was written. Assumes nothing.
-use mathlib.Core.Path.{_≡_, refl, sym, ap, _∙_}
+use mathlib.Core.Path.{_≡_, sym, ap, _∙_}
 use mathlib.Core.Bool.{true}
-use mathlib.Core.List.{List, [], _∷_, _++_}
+use mathlib.Core.List.{List}
 use Prim.Native.Nat.{ℕ, _+_, _-_, _*_, _≤_, _<_}
 use native.Mathlib.Omega.{arith}
-use lib.ListN.{length, take, drop, getD, set}
+use lib.ListN.{length, set}
 use Rattle.std.specs.Changed.{refilled}
 use Rattle.std.specs.Holes.{inserted, removed}
 use Rattle.std.specs.Of.Vec.{vec-items, vec-len}
 use Rattle.std.specs.declared.vec.Vec.{Vec}
 use Rattle.std.proofs.shelf.Lists.{refilled-is}
-use Rattle.line.specs.Lines.{Line, line-limit, is-line}
-use Rattle.line.specs.Faults.{line-fault}
-use Rattle.line.specs.Stores.{charges, store-limit}
+use Rattle.line.specs.Lines.{line-limit, is-line}
+use Rattle.line.specs.Stores.{charges}
 use Rattle.line.proofs.Charges.{charges-one}
 use Rattle.line.proofs.Edits.{lines-set, lines-inserted, lines-removed}
 use Rattle.slot_store.specs.Slots.{slot-size, slots-in, slots-of, Held, with-line, with-slots}

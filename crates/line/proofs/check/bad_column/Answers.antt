@@ -7,15 +7,15 @@ use Rattle.std.proofs.shelf.Lists.{at-drop-all}
 use Rattle.line.specs.Lines.{printable, bad-from}
 use Rattle.line.proofs.Columns.{bad-more, bad-here}
 use Rattle.line.proofs.check.bad_column.Needs as need
-use Rattle.line.proofs.check.bad_column.Needs.{then-byte-lt32·by·then-byte-lt32, then-byte-lt32·by·else-byte-lt32·then-byte-gt126}
+use Rattle.line.proofs.check.bad_column.Needs.{then-byte-lt-FIRST-BYTE·by·then-byte-lt-FIRST-BYTE, then-byte-lt-FIRST-BYTE·by·else-byte-lt-FIRST-BYTE·then-byte-gt-LAST-BYTE}
 
-pub returns-then-byte-lt32 : need.returns-then-byte-lt32
-returns-then-byte-lt32 c =
+pub returns-then-byte-lt-FIRST-BYTE : need.returns-then-byte-lt-FIRST-BYTE
+returns-then-byte-lt-FIRST-BYTE c =
     let bytes = c .args .bytes .now in
     let b = getD bytes (c .loop-column .column) 0 in
-    let p : printable b ≡ false = elim (c .then-byte-lt32 .came) [
-      | then-byte-lt32·by·then-byte-lt32 w ↦ let h = w .if-byte-lt32 .taken in grind (arith, tells)
-      | then-byte-lt32·by·else-byte-lt32·then-byte-gt126 w ↦ let h = w .if-byte-gt126 .taken in grind (arith, tells)
+    let p : printable b ≡ false = elim (c .then-byte-lt-FIRST-BYTE .came) [
+      | then-byte-lt-FIRST-BYTE·by·then-byte-lt-FIRST-BYTE w ↦ let h = w .if-byte-lt-FIRST-BYTE .taken in grind (arith, tells)
+      | then-byte-lt-FIRST-BYTE·by·else-byte-lt-FIRST-BYTE·then-byte-gt-LAST-BYTE w ↦ let h = w .if-byte-gt-LAST-BYTE .taken in grind (arith, tells)
     ] in
     sym (bad-here bytes (c .loop-column .column) b (c .loop-column-test .taken) refl p) ∙ c .loop-column .inv
 

@@ -8,7 +8,7 @@ use Rattle.std.proofs.shelf.Signed.{toZ-ofZ}
 use Rattle.directive.specs.Grammar.{Said.text, Said.directive, said}
 use Rattle.directive.proofs.Sound.{text-short, value-taken}
 use Rattle.numberer.specs.Letters.{spelled, takes, In-its-range}
-use Rattle.line.proofs.Short.{line-short}
+use Rattle.line.proofs.Edits.{line-short}
 use Rattle.numberer.proofs.Printing.{ranges}
 use Rattle.numberer.proofs.NumbererEngine.step.Needs as need
 

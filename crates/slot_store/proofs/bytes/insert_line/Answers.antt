@@ -1,6 +1,6 @@
 use mathlib.Core.Path.{ap, _∙_}
 use mathlib.Core.List.{List}
-use Prim.Native.Nat.{ℕ, _+_}
+use Prim.Native.Nat.{ℕ}
 use Rattle.slot_store.specs.Slots.{with-line}
 use Rattle.slot_store.proofs.bytes.insert_line.Needs as need
 

@@ -1,4 +1,3 @@
-use mathlib.Core.Path.{_≡_, sym, ap, _∙_}
 use Rattle.line.proofs.Pastes.{putMid-record}
 use Rattle.slot_store.specs.Slots.{slot-size}
 use Prim.Native.Nat.{_*_}

@@ -1,17 +1,13 @@
-use mathlib.Core.Path.{_≡_, refl, sym, ap, _∙_}
-use mathlib.Core.Bool.{true}
-use mathlib.Core.List.{List, []}
-use Prim.Native.Nat.{ℕ, _+_, _≤_, _<_}
+use mathlib.Core.Path.{refl, sym, ap, _∙_}
+use mathlib.Core.List.{List}
+use Prim.Native.Nat.{ℕ, _+_, _<_}
 use native.Mathlib.Omega.{arith}
 use Rattle.std.specs.Of.Vec.{vec-items, vec-len}
 use Rattle.std.proofs.shelf.Results.{err-from-errBy}
-use Rattle.line.specs.Lines.{is-line}
 use Rattle.line.proofs.Charges.{charges-inserted}
-use Rattle.line.proofs.Edits.{insert-nowhere, insert-no-line, insert-full, insert-allowed, line-from-none}
-use Rattle.line.specs.declared.fault.StoreFault.{StoreFault}
-use Rattle.line.specs.declared.fault.StoreFault.the-variants.{Full}
+use Rattle.line.proofs.Edits.{insert-nowhere, insert-no-line, insert-full, insert-allowed, line-from-none, line-short}
 use Rattle.slot_store.specs.Slots.{slots-in, slots-of, with-line, with-slots}
-use Rattle.slot_store.proofs.Slots.{length-slots, line-short}
+use Rattle.slot_store.proofs.Slots.{length-slots}
 use Rattle.slot_store.proofs.Stored.{charged, now-inserted, held-inserted}
 use Rattle.slot_store.proofs.edit.SlotStoreLines.insert.Needs as need
 

@@ -1,15 +1,13 @@
-use mathlib.Core.Path.{_≡_, refl, sym, ap, _∙_}
-use mathlib.Core.Bool.{true}
-use mathlib.Core.List.{List, []}
-use Prim.Native.Nat.{ℕ, _≤_}
+use mathlib.Core.Path.{refl, sym, ap, _∙_}
+use mathlib.Core.List.{List}
+use Prim.Native.Nat.{ℕ}
 use native.Mathlib.Omega.{arith}
 use Rattle.std.specs.Of.Vec.{vec-items, vec-len}
 use Rattle.std.proofs.shelf.Results.{err-from-errBy}
-use Rattle.line.specs.Lines.{is-line}
 use Rattle.line.proofs.Charges.{charges-set}
-use Rattle.line.proofs.Edits.{replace-nowhere, replace-no-line, replace-allowed, line-from-none}
+use Rattle.line.proofs.Edits.{replace-nowhere, replace-no-line, replace-allowed, line-from-none, line-short}
 use Rattle.slot_store.specs.Slots.{slots-in, slots-of, with-line}
-use Rattle.slot_store.proofs.Slots.{length-slots, line-short}
+use Rattle.slot_store.proofs.Slots.{length-slots}
 use Rattle.slot_store.proofs.Stored.{charged, now-replaced, held-replaced}
 use Rattle.slot_store.proofs.edit.SlotStoreLines.replace.Needs as need
 
