@@ -7,6 +7,8 @@ ghost use Rattle.log_input.specs.Splits.{split, Split-law};
 use std::alloc::AllocError;
 use std::alloc::Global;
 
+const LINE_FEED: u8 = b'\n';
+
 // The lines of an input, as parts of it. It fails only for want of memory.
 pub fn split_lines<'a>(heap: Global, input: &'a [u8]) -> Result<Vec<&'a [u8]>, AllocError>
     ensures lines { λ r. ⌜ made r (λ v. map held (vec-items v) ≡ split (now (input .entry))) ⌝ }
@@ -15,7 +17,7 @@ pub fn split_lines<'a>(heap: Global, input: &'a [u8]) -> Result<Vec<&'a [u8]>, A
     let mut lines = Vec::new(heap);
     let mut start = 0;
     for (i, byte) in input.iter().enumerate() {
-        if *byte == b'\n' {
+        if *byte == LINE_FEED {
             lines.push(&input[start..i])?;
             start = i + 1;
         }

@@ -10,7 +10,7 @@ use Rattle.std.proofs.shelf.Results.{made-from-err}
 use Rattle.log_input.specs.Splits.{split, Unbroken}
 use Rattle.log_input.proofs.Splitting.{feed-again, longer, none-yet, rest-again, no-rest, law}
 use Rattle.log_input.proofs.split.split_lines.Needs as need
-use Rattle.log_input.proofs.split.split_lines.Needs.{then-byte-eq10·in-Continue-push, else-byte-eq10, then-start-input·in-Continue-push-2, else-start-input}
+use Rattle.log_input.proofs.split.split_lines.Needs.{then-byte-eq-LINE-FEED·in-Continue-push, else-byte-eq-LINE-FEED, then-start-input·in-Continue-push-2, else-start-input}
 
 pub returns-in-Break-push : need.returns-in-Break-push
 returns-in-Break-push c = record { lines = made-from-err (c .from-residual .result) _ (c .from-residual .ensures .0); law = law }
@@ -21,12 +21,12 @@ loop-i-again c =
     let i = c .loop-i .i in
     let start = c .loop-i .start in
     let inv = c .loop-i .inv in
-    elim (c .if-byte-eq10 .came) [
-      | then-byte-eq10·in-Continue-push w ↦
-          let done : map now (vec-items (c .if-byte-eq10 .lines)) ≡ map now (vec-items (c .loop-i .lines)) ++ (take (i - start) (drop start input) ∷ []) = ap (λ v. map now (vec-items v)) (w .lines-is) ∙ ap (map now) (w .in-Continue-push .ensures tt .items) ∙ map-push now (vec-items (c .loop-i .lines)) _ in
-          let all = feed-again input start i (inv .0) (c .loop-i-test .taken) (inv .2) (map now (vec-items (c .loop-i .lines))) (map now (vec-items (c .if-byte-eq10 .lines))) (inv .1) done (w .if-byte-eq10 .taken) in
+    elim (c .if-byte-eq-LINE-FEED .came) [
+      | then-byte-eq-LINE-FEED·in-Continue-push w ↦
+          let done : map now (vec-items (c .if-byte-eq-LINE-FEED .lines)) ≡ map now (vec-items (c .loop-i .lines)) ++ (take (i - start) (drop start input) ∷ []) = ap (λ v. map now (vec-items v)) (w .lines-is) ∙ ap (map now) (w .in-Continue-push .ensures tt .items) ∙ map-push now (vec-items (c .loop-i .lines)) _ in
+          let all = feed-again input start i (inv .0) (c .loop-i-test .taken) (inv .2) (map now (vec-items (c .loop-i .lines))) (map now (vec-items (c .if-byte-eq-LINE-FEED .lines))) (inv .1) done (w .if-byte-eq-LINE-FEED .taken) in
           simp (w .start-is) (omega arith, all, none-yet input (i + 1))
-      | else-byte-eq10 w ↦ simp (w .start-is, w .lines-is) (omega arith, inv .1, longer input start i (inv .0) (c .loop-i-test .taken) (inv .2) (w .if-byte-eq10 .left))
+      | else-byte-eq-LINE-FEED w ↦ simp (w .start-is, w .lines-is) (omega arith, inv .1, longer input start i (inv .0) (c .loop-i-test .taken) (inv .2) (w .if-byte-eq-LINE-FEED .left))
     ]
 
 pub returns-in-Break-push-2 : need.returns-in-Break-push-2
