@@ -75,7 +75,7 @@ module _ {M S : Type 0} (means : S → M) (e : Model M) (lines : List Line) wher
 
 -- the parts from which a page is made
 
--- a page that was filled: what the rule says, the count of its rows, and its body; `with-end` says whether the end is on it
+-- a page that was filled: what the rule says, the count of its rows, and its body; `how` says whether the end is on it
 pub record Lies {M : Type 0} (f : Filled M) (how : ℕ → List Row → Filled M) (items rows : ℕ) (after : List ℕ) : Type 0 where
   pub set : List Row
   pub rule : f ≡ how items set

@@ -16,7 +16,7 @@ use Rattle.page_rule.specs.Steps.{all-steps, Steps-law}
 use Rattle.page_rule.proofs.Views.{Fills, fills, Paged, paged}
 
 -- the items of a filled page: all that are left with the end, or no more than the lines that are left
-abbrev Counts : {M : Type 0} → ℕ → ℕ → Filled M → Type 0
+abbrev pub Counts : {M : Type 0} → ℕ → ℕ → Filled M → Type 0
 Counts left items (last n rows) = n ≡ items + left + 1
 Counts left items (full n rows t) = n ≤ items + left
 Counts left items (stuck n rows cause column) = Unit {0}
@@ -34,7 +34,7 @@ module _ {M : Type 0} (e : Model M) where
   counts-fill (Fills.line-over h g) = omega arith
   counts-fill (Fills.line-stuck g) = tt
 
-  counted : (lines : List Line) (j : ℕ) (s : M) (F : Filled M) → fill e (drop j lines) s 0 [] ≡ F → Counts (length (drop j lines)) 0 F
+  pub counted : (lines : List Line) (j : ℕ) (s : M) (F : Filled M) → fill e (drop j lines) s 0 [] ≡ F → Counts (length (drop j lines)) 0 F
   counted lines j s F h = subst (Counts (length (drop j lines)) 0) h (counts-fill (fills e (drop j lines) s 0 []))
 
   -- from item j on, where there is such an item
