@@ -3,6 +3,7 @@ ghost use mathlib.Core.Path.{_≡_};
 ghost use mathlib.Core.List.{[]};
 ghost use Prim.Native.Nat.{_≤_};
 ghost use lib.ListN.{length};
+ghost use Rattle.line.specs.Lines.{line-limit};
 ghost use Rattle.engine.specs.Model.{Stepped.goes};
 ghost use Rattle.engine.specs.Promise.{StepGives};
 ghost use Rattle.directive.specs.Grammar.{Said.directive as says};
@@ -48,7 +49,7 @@ fn print_text(
     text: &[u8],
     rows: &mut RowBuffer,
 ) -> (NumberState, Result<usize, EngineFault>)
-    requires { ⌜ length (now text) ≤ 120 ⌝ }
+    requires { ⌜ length (now text) ≤ line-limit ⌝ }
     ensures { λ r. ⌜ StepGives meaning (printed (meaning state) (now (text .entry))) state (now (rows .entry)) (r .0) (r .1) (now (rows .exit)) ⌝ }
 {
     if state.number >= NUMBER_LIMIT {

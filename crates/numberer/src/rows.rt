@@ -1,13 +1,14 @@
 ghost use mathlib.Core.Path.{_≡_};
-ghost use mathlib.Core.List.{_∷_, _++_};
+ghost use mathlib.Core.List.{_++_};
 ghost use Prim.Native.Nat.{_≤_, _<_};
 ghost use lib.IntN.{natAbs};
 ghost use lib.ListN.{length, replicate};
 ghost use lib.IntN.{pos};
 ghost use lib.Signed.{mag, _≤ℤ_, _<ℤ_};
+ghost use Rattle.line.specs.Lines.{line-limit};
+ghost use Rattle.engine.specs.Model.{row-width};
 ghost use Rattle.engine.specs.Promise.{fronted};
-ghost use Rattle.numerals.specs.Fields.{field};
-ghost use Rattle.numberer.specs.Rows.{padded, rows-of};
+ghost use Rattle.numberer.specs.Rows.{text-column, text-width, padded, row-of, rows-of};
 use division::FloorDivision;
 use engine::ROW_WIDTH;
 use engine::RowBuffer;
@@ -28,11 +29,11 @@ const TEXT_WIDTH: usize = 60;
 
 // Turn, stop and text in their columns, and spaces between and behind them.
 fn set_first_row(row: &mut [u8], place: FloorDivision, text: &[u8])
-    requires size { ⌜ length (now row) ≡ 72 ⌝ }
+    requires size { ⌜ length (now row) ≡ row-width ⌝ }
     requires turn { ⌜ mag (place .quotient) < 100000 ⌝ }
     requires stop { ⌜ pos 0 ≤ℤ place .remainder ⌝ ∗ ⌜ place .remainder <ℤ pos 1000 ⌝ }
-    requires short { ⌜ length (now text) ≤ 60 ⌝ }
-    ensures { λ _. ⌜ now (row .exit) ≡ field 7 (place .quotient) ++ (32 ∷ (field 3 (place .remainder) ++ (32 ∷ padded 60 (now (text .entry))))) ⌝ }
+    requires short { ⌜ length (now text) ≤ text-width ⌝ }
+    ensures { λ _. ⌜ now (row .exit) ≡ row-of (place .quotient) (place .remainder) (now (text .entry)) ⌝ }
 {
     row.fill(b' ');
     put_number(row, TURN_COLUMN, TURN_WIDTH, place.quotient).unwrap();
@@ -42,9 +43,9 @@ fn set_first_row(row: &mut [u8], place: FloorDivision, text: &[u8])
 
 // The rest of a long text in its columns, with spaces before and behind it.
 fn set_second_row(row: &mut [u8], text: &[u8])
-    requires size { ⌜ length (now row) ≡ 72 ⌝ }
-    requires short { ⌜ length (now text) ≤ 60 ⌝ }
-    ensures { λ _. ⌜ now (row .exit) ≡ replicate 12 32 ++ padded 60 (now (text .entry)) ⌝ }
+    requires size { ⌜ length (now row) ≡ row-width ⌝ }
+    requires short { ⌜ length (now text) ≤ text-width ⌝ }
+    ensures { λ _. ⌜ now (row .exit) ≡ replicate text-column 32 ++ padded text-width (now (text .entry)) ⌝ }
 {
     row.fill(b' ');
     row[TEXT_COLUMN..TEXT_COLUMN + text.len()].copy_from_slice(text);
@@ -54,7 +55,7 @@ fn set_second_row(row: &mut [u8], text: &[u8])
 pub(super) fn print_rows(rows: &mut RowBuffer, place: FloorDivision, text: &[u8]) -> usize
     requires turn { ⌜ mag (place .quotient) < 100000 ⌝ }
     requires stop { ⌜ pos 0 ≤ℤ place .remainder ⌝ ∗ ⌜ place .remainder <ℤ pos 1000 ⌝ }
-    requires short { ⌜ length (now text) ≤ 120 ⌝ }
+    requires short { ⌜ length (now text) ≤ line-limit ⌝ }
     ensures count { λ r. ⌜ r ≡ length (rows-of (place .quotient) (natAbs (place .remainder)) (now (text .entry))) ⌝ }
     ensures buffer { λ _. ⌜ now (rows .exit) ≡ fronted (rows-of (place .quotient) (natAbs (place .remainder)) (now (text .entry))) (now (rows .entry)) ⌝ }
 {

@@ -10,7 +10,7 @@ use lib.Seq.{drop-cons}
 use Rattle.std.proofs.shelf.Lists.{take-at}
 use Rattle.std.proofs.shelf.Parts.{drop-append-drop}
 use Rattle.line.specs.Lines.{Line}
-use Rattle.engine.specs.Model.{Row, Stepped, Stepped.goes, Stepped.refuses, Model}
+use Rattle.engine.specs.Model.{Row, Stepped, Stepped.goes, Stepped.refuses, Model, step-rows}
 use Rattle.engine.specs.Promise.{joined, fronted}
 use Rattle.page_rule.specs.Pages.{body}
 use Rattle.page_rule.specs.Filling.{Filled, Filled.last, Filled.full, Filled.stuck, stepped, fill}
@@ -47,7 +47,7 @@ pub record Underway {M : Type 0} (e : Model M) (lines : List Line) (first : ℕ)
   pub rule : fill e (drop (first + items) lines) m items set ≡ fill e (drop first lines) start 0 []
   pub counts : rows ≡ length set
   pub few : rows ≤ 40
-  pub each : rows ≤ items * 4
+  pub each : rows ≤ items * step-rows
   pub size : length (joined set) ≡ rows * 72
   pub holds : bytes ≡ fronted set before
   pub within : first + items ≤ max first (length lines)

@@ -8,7 +8,7 @@ use Rattle.std.specs.declared.result.Result.the-variants.{Ok, Err}
 use Rattle.std.specs.declared.option.Option.{Option}
 use Rattle.std.specs.declared.option.Option.the-variants.{Some, None}
 use Rattle.line.specs.Lines.{Line}
-use Rattle.engine.specs.Model.{Row, Stepped, Stepped.goes, Stepped.refuses, Model, row-width}
+use Rattle.engine.specs.Model.{Row, Stepped, Stepped.goes, Stepped.refuses, Model, row-width, step-rows}
 use Rattle.engine.specs.Promise.{joined, fronted}
 use Rattle.page_rule.specs.Pages.{body, steps, page-rows}
 use Rattle.page_rule.specs.Filling.{Filled, Filled.last, Filled.full, Filled.stuck, fill}
@@ -106,7 +106,7 @@ pub record ItemOn {M : Type 0} (x : Stepped M) (t : M) (rows : ℕ) (before : Li
   pub given : List Row
   pub step : x ≡ goes t given
   pub counts : more ≡ length given
-  pub few : more ≤ 4
+  pub few : more ≤ step-rows
   pub size : length (joined given) ≡ more * row-width
   pub fits : rows + more ≤ page-rows
   pub holds : after ≡ take (rows * row-width) before ++ joined given ++ drop ((rows + more) * row-width) before
@@ -115,7 +115,7 @@ pub record ItemOver {M : Type 0} (x : Stepped M) (rows : ℕ) (before after : Li
   pub next : M
   pub given : List Row
   pub step : x ≡ goes next given
-  pub few : length given ≤ 4
+  pub few : length given ≤ step-rows
   pub over : page-rows < rows + length given
   pub same : after ≡ before
 

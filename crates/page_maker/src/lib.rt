@@ -5,6 +5,8 @@ ghost use Prim.Native.Nat.{ℕ, _+_, _-_, _*_, _≤_, _<_};
 ghost use lib.ListN.{length, drop, take, replicate};
 ghost use lib.Seq.{paste};
 ghost use Rattle.line.specs.Lines.{Line};
+ghost use Rattle.engine.specs.Model.{row-width, step-rows};
+ghost use Rattle.page_rule.specs.Pages.{page-rows};
 ghost use Rattle.page_rule.specs.Filling.{fill, stepped};
 ghost use Rattle.page_rule.specs.Formatting.{formatted};
 ghost use Rattle.page_maker.specs.Promise.{PageGives, FillGives, PlaceGives, LineGives, EndGives, ahead};
@@ -35,8 +37,8 @@ pub type Body = [u8; BODY_BYTES];
 
 // The first `more` rows of the buffer, put below the first `rows` rows of the body.
 fn copy_rows(body: &mut Body, rows: usize, buffer: &RowBuffer, more: usize)
-    requires { ⌜ rows + more ≤ 40 ⌝ ∗ ⌜ more ≤ 4 ⌝ }
-    ensures { λ _. ⌜ now (body .exit) ≡ paste (now (body .entry)) (rows * 72) (now (buffer .entry)) (more * 72) ⌝ }
+    requires { ⌜ rows + more ≤ page-rows ⌝ ∗ ⌜ more ≤ step-rows ⌝ }
+    ensures { λ _. ⌜ now (body .exit) ≡ paste (now (body .entry)) (rows * row-width) (now (buffer .entry)) (more * row-width) ⌝ }
 {
     let from = rows * ROW_WIDTH;
     let bytes = more * ROW_WIDTH;
@@ -45,8 +47,8 @@ fn copy_rows(body: &mut Body, rows: usize, buffer: &RowBuffer, more: usize)
 
 // Spaces below the first `rows` rows of the body.
 fn clear_rows(body: &mut Body, rows: usize)
-    requires { ⌜ rows ≤ 40 ⌝ }
-    ensures { λ _. ⌜ now (body .exit) ≡ take (rows * 72) (now (body .entry)) ++ replicate ((40 - rows) * 72) 32 ⌝ }
+    requires { ⌜ rows ≤ page-rows ⌝ }
+    ensures { λ _. ⌜ now (body .exit) ≡ take (rows * row-width) (now (body .entry)) ++ replicate ((page-rows - rows) * row-width) 32 ⌝ }
 {
     body[rows * ROW_WIDTH..BODY_BYTES].fill(b' ');
 }
@@ -59,7 +61,7 @@ fn place_line<E: Engine>(
     rows: usize,
     body: &mut Body,
 ) -> Placed<E::State>
-    requires { ⌜ rows ≤ 40 ⌝ }
+    requires { ⌜ rows ≤ page-rows ⌝ }
     ensures { λ r. ⌜ LineGives means (model (now (engine .entry)) .step (means state) (now (line .entry))) rows (now (body .entry)) r (now (body .exit)) ⌝ }
 {
     let mut buffer = [0u8; STEP_ROWS * ROW_WIDTH];
@@ -78,7 +80,7 @@ fn place_line<E: Engine>(
 
 // The end onto the page, where it fits below the rows there: its rows.
 fn place_end<E: Engine>(engine: &E, state: E::State, rows: usize, body: &mut Body) -> Option<usize>
-    requires { ⌜ rows ≤ 40 ⌝ }
+    requires { ⌜ rows ≤ page-rows ⌝ }
     ensures { λ r. ⌜ EndGives (means state) (model (now (engine .entry)) .close (means state)) rows (now (body .entry)) r (now (body .exit)) ⌝ }
 {
     let mut buffer = [0u8; STEP_ROWS * ROW_WIDTH];
@@ -99,7 +101,7 @@ fn place_item<E: Engine, L: LineStore>(
     rows: usize,
     body: &mut Body,
 ) -> Placed<E::State>
-    requires { ⌜ rows ≤ 40 ⌝ }
+    requires { ⌜ rows ≤ page-rows ⌝ }
     ensures { λ r. ⌜ PlaceGives means (length (lines (now (store .entry)))) item (stepped (model (now (engine .entry))) (means state) (drop item (lines (now (store .entry))))) (means state) rows (now (body .entry)) r (now (body .exit)) ⌝ }
 {
     let mut line = [0u8; LINE_LIMIT];
