@@ -14,6 +14,7 @@ use Rattle.engine.specs.declared.EngineFault.{EngineFault}
 use Rattle.line.specs.Lines.{Line}
 use Rattle.engine.specs.Model.{Row, Stepped, Stepped.goes, Stepped.refuses, Model, Sized, SizedStep}
 use Rattle.engine.specs.Promise.{StepGives, CloseGives, Done, Refused, joined, fronted}
+use Rattle.page_rule.proofs.Bodies.{length-joined}
 use Rattle.page_maker.specs.Promise.{ItemOn, ItemOver}
 
 pub pasted : (d s ys : List ℕ) (at n : ℕ) → ys ≡ take (n - 0) (drop 0 s) → putMid at (at + n - at) d ys ≡ paste d at s n
@@ -35,11 +36,7 @@ cleared d ys rows l b h =
     let z : drop (2880 - rows * 72) (drop (rows * 72) d) ≡ [] = drop-of-length-le (drop (rows * 72) d) (omega arith) in
     ap (λ t. take (rows * 72) d ++ (ys ++ t)) z ∙ ap (λ t. take (rows * 72) d ++ t) (append-nil ys ∙ h ∙ ap (λ m. replicate m 32) w)
 
--- rows of 72 bytes
-pub length-joined : (rs : List Row) → All (λ (r : Row). length r ≡ 72) rs → length (joined rs) ≡ length rs * 72
-length-joined [] h = refl
-length-joined (r ∷ rs) h = let n = length-append r (joined rs) in let i = length-joined rs (h .1) in let k = h .0 in omega arith
-
+-- rows one behind another
 pub joined-append : (rs ss : List Row) → joined (rs ++ ss) ≡ joined rs ++ joined ss
 joined-append [] ss = refl
 joined-append (r ∷ rs) ss = ap (λ l. r ++ l) (joined-append rs ss) ∙ sym (append-assoc r (joined rs) (joined ss))

@@ -1,9 +1,9 @@
 -- How many bytes rows and bodies have. Assumes nothing.
 use mathlib.Core.Path.{_≡_, refl}
 use mathlib.Core.List.{List, [], _∷_}
-use Prim.Native.Nat.{ℕ, _-_, _*_, _≤_}
+use Prim.Native.Nat.{_*_, _≤_}
 use native.Mathlib.Omega.{arith}
-use lib.ListN.{length, replicate, length-append, length-replicate}
+use lib.ListN.{length, length-append, length-replicate}
 use Rattle.std.specs.shelf.Lists.{All}
 use Rattle.engine.specs.Model.{Row, row-width}
 use Rattle.engine.specs.Promise.{joined}

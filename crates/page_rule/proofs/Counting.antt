@@ -1,17 +1,17 @@
 -- How many items and steps the pages of a formatting have. Assumes nothing.
-use mathlib.Core.Path.{_≡_, refl, sym, ap, subst, _∙_}
-use mathlib.Core.Bool.{Bool, true, false, cond}
-use mathlib.Core.List.{List, [], _∷_, _++_}
-use Prim.Native.Nat.{ℕ, zero, suc, _+_, _-_, _≤_, _<_}
+use mathlib.Core.Path.{_≡_, subst}
+use mathlib.Core.Bool.{true, false}
+use mathlib.Core.List.{List, []}
+use Prim.Native.Nat.{ℕ, suc, _+_, _≤_}
 use native.Mathlib.Omega.{arith}
 use borrow.Author.Tests.{le-leb, lt-leb}
 use lib.Dec.{leb}
 use lib.ListN.{length, drop, length-drop}
 use Rattle.line.specs.Lines.{Line}
-use Rattle.engine.specs.Model.{Row, Stepped, Stepped.goes, Stepped.refuses, Model}
-use Rattle.page_rule.specs.Pages.{Page, steps}
+use Rattle.engine.specs.Model.{Row, Model}
+use Rattle.page_rule.specs.Pages.{steps}
 use Rattle.page_rule.specs.Filling.{Filled, Filled.last, Filled.full, Filled.stuck, fill}
-use Rattle.page_rule.specs.Formatting.{Ending, Ending.complete, Ending.too-many-pages, Ending.line-refused, Formatted, page, pages-from}
+use Rattle.page_rule.specs.Formatting.{Ending.complete, Formatted}
 use Rattle.page_rule.specs.Steps.{all-steps, Steps-law}
 use Rattle.page_rule.proofs.Views.{Fills, fills, Paged, paged}
 

@@ -1,10 +1,10 @@
 -- What lies behind does not matter to what was set before. Assumes nothing.
-use mathlib.Core.Path.{_≡_, refl, sym, ap, subst, subst⁻¹, _∙_}
+use mathlib.Core.Path.{_≡_, refl, sym, ap, subst, _∙_}
 use mathlib.Core.List.{List, [], _∷_, _++_}
 use Prim.Native.Nat.{ℕ, zero, suc, _+_, _-_, _≤_, _<_}
 use native.Mathlib.Omega.{arith}
 use native.Mathlib.Nat.{zero-add, suc-add}
-use lib.ListN.{length, take, drop}
+use lib.ListN.{take, drop}
 use Rattle.std.specs.shelf.Maps.{nth}
 use Rattle.std.specs.declared.option.Option.the-variants.{Some}
 use Rattle.line.specs.Lines.{Line}
@@ -12,7 +12,7 @@ use Rattle.engine.specs.Model.{Row, Model}
 use Rattle.page_rule.specs.Pages.{Page}
 use Rattle.page_rule.specs.Filling.{Filled, Filled.last, Filled.full, Filled.stuck, fill}
 use Rattle.page_rule.specs.Formatting.{Formatted, onto, page, pages-from, formatted}
-use Rattle.page_rule.specs.Head.{Same-up-to, Head-law}
+use Rattle.page_rule.specs.Head.{Head-law}
 use Rattle.page_rule.proofs.Views.{Fills, fills, fill-is, Paged, paged, from-full}
 
 -- the first h items are the same, item by item

@@ -9,13 +9,13 @@ use lib.Dec.{leb, ltb}
 use lib.ListN.{length, take, drop, set, length-set}
 use lib.Seq.{take-take, drop-drop, take-set-le, drop-set-lt, take-append-le, drop-append-add, length-take-le}
 use Rattle.std.specs.Holes.{inserted, removed}
-use Rattle.std.specs.declared.option.Option.{Option}
 use Rattle.std.specs.declared.option.Option.the-variants.{Some, None}
 use Rattle.std.proofs.shelf.Edits.{length-inserted, length-removed}
 use Rattle.line.specs.Lines.{Line}
 use Rattle.line.specs.Stores.{Edit, Edit.replace, Edit.insert, Edit.remove, edited, place-fault}
 use Rattle.page_rule.specs.declared.marks.Marks.{Marks}
-use Rattle.page_rule.specs.Marks.{all-untouched, head-after, tail-after, marks-after, all-edited, all-marked, All-accepted, Marked, Marks-law}
+use Rattle.page_rule.specs.Moving.{Moves}
+use Rattle.page_rule.specs.Marks.{all-untouched, marks-after, all-edited, all-marked, All-accepted, Marked, Marks-law}
 
 -- a test that gives no fault is true
 passed : {F : Type 0} (b : Bool) (f : F) → cond b None (Some f) ≡ None → b ≡ true
@@ -49,7 +49,7 @@ module _ (old now : List Line) (marks : Marks) (m : Marked old now marks) where
     tails = back ∙ tail-less t ht;
   }
 
-tail-lines : (old now : List Line) (marks : Marks) (i j : ℕ) → Marked old now marks → length now + 1 - j ≤ marks .tail → i + (length now + 1) ≡ j + (length old + 1) → drop j now ≡ drop i old
+tail-lines : (old now : List Line) (marks : Marks) (i j : ℕ) → Marked old now marks → length now + 1 - j ≤ marks .tail → Moves (length old + 1) (length now + 1) i j → drop j now ≡ drop i old
 tail-lines old now marks i j m w l =
     let t = length now + 1 - j in
     let past = j - (length now + 1) in

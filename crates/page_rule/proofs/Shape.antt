@@ -1,7 +1,7 @@
 -- The shape of a formatting, of an engine whose rows are few and wide. Assumes nothing.
 use mathlib.Core.Path.{_≡_, refl, subst}
 use mathlib.Core.Bool.{true}
-use mathlib.Core.List.{List, [], _∷_, _++_}
+use mathlib.Core.List.{List, [], _++_}
 use Prim.Native.Nat.{ℕ, suc, _+_, _≤_}
 use native.Mathlib.Omega.{arith}
 use borrow.Author.Tests.{leb-true, leb-false}
@@ -13,7 +13,7 @@ use Rattle.engine.specs.Model.{Row, row-width, step-rows, Model, Stepped.goes, 
 use Rattle.page_rule.specs.Pages.{page-rows}
 use Rattle.page_rule.specs.Filling.{Filled, Filled.last, Filled.full, Filled.stuck, fits, fill}
 use Rattle.page_rule.specs.Formatting.{Ending.complete, Formatted, page}
-use Rattle.page_rule.specs.Shape.{Well-formed, Follows, all-items, Shaped, Shape-law}
+use Rattle.page_rule.specs.Shape.{Well-formed, Follows, all-items, Shape-law}
 use Rattle.page_rule.proofs.Views.{Fills, fills, Paged, paged}
 use Rattle.page_rule.proofs.Counting.{Counts, counted}
 use Rattle.page_rule.proofs.Bodies.{body-size}

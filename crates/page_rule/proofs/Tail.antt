@@ -1,26 +1,27 @@
 -- From the same state the same lines give the same pages. Assumes nothing.
 use mathlib.Core.Path.{_≡_, refl, sym, ap, subst⁻¹, _∙_}
 use mathlib.Core.List.{List, [], _∷_, map}
-use Prim.Native.Nat.{ℕ, zero, suc, _+_, _-_, _≤_, _<_}
+use Prim.Native.Nat.{ℕ, zero, suc, _+_, _-_, _≤_}
 use native.Mathlib.Omega.{arith}
 use native.Mathlib.Nat.{le-of-suc-le-suc}
-use lib.ListN.{length, take, drop, length-map}
+use lib.ListN.{length, take, drop}
 use lib.Seq.{drop-drop}
 use Rattle.std.proofs.shelf.Lists.{append-cancel-left, take-append-drop}
 use Rattle.std.specs.shelf.Maps.{nth}
 use Rattle.std.specs.declared.option.Option.the-variants.{Some}
 use Rattle.line.specs.Lines.{Line}
-use Rattle.engine.specs.Model.{Row, Model}
+use Rattle.engine.specs.Model.{Model}
 use Rattle.page_rule.specs.Pages.{Page}
 use Rattle.page_rule.specs.Filling.{fill}
 use Rattle.page_rule.specs.Formatting.{Ending.complete, Ending.too-many-pages, Formatted, no-page, onto, page, pages-from, formatted}
-use Rattle.page_rule.specs.Tail.{moved-item, moved, replayed, Same-pages, Alike, Tail-law}
+use Rattle.page_rule.specs.Moving.{Moves, moved-item, moved}
+use Rattle.page_rule.specs.Tail.{replayed, Same-pages, Alike, Tail-law}
 use Rattle.page_rule.proofs.Views.{Paged, paged, from-last, from-full}
 use Rattle.page_rule.proofs.Head.{head-law}
 
 module _ {M : Type 0} (e : Model M) (old now : List Line) where
   replays : {more′ r i : ℕ} {s : M} {f : Formatted M} → Paged e old more′ r i s f → f .ending ≡ complete
-      → (more q j from to : ℕ) → drop j now ≡ drop i old → i + to ≡ j + from
+      → (more q j from to : ℕ) → drop j now ≡ drop i old → Moves from to i j
       → pages-from e more q j s now ≡ replayed more q (map (moved from to) (f .pages))
   replays Paged.over c more q j from to d m = let z : _≡_ {A = ℕ} 0 1 = cc in absurd (omega arith)
   replays (Paged.at-last h) c zero q j from to d m = ap (λ n. no-page (too-many-pages n q)) (omega arith)

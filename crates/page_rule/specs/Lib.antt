@@ -4,5 +4,6 @@ pub mod Formatting
 pub mod Steps
 pub mod Shape
 pub mod Head
+pub mod Moving
 pub mod Tail
 pub mod Marks

@@ -36,7 +36,7 @@ most-pages limit n = min limit (n + 1)
 pub record Shaped {M : Type 0} (limit : ℕ) (lines : List Line) (f : Formatted M) : Type 0 where
   -- the pages follow on from item 0 without a gap
   pub follows : Follows 0 (f .pages)
-  -- there are at most as many as the limit
+  -- there are at most as many as the limit, and as there are items
   pub few : length (f .pages) ≤ most-pages limit (length lines)
   -- the pages of a complete formatting have all items: the lines and the end
   pub whole : f .ending ≡ complete → all-items (f .pages) ≡ length lines + 1

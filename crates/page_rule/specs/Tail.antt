@@ -1,32 +1,15 @@
 -- From the same state the same lines give the same pages, wherever they stand. Assumes nothing.
 use mathlib.Core.Path.{_≡_}
 use mathlib.Core.List.{List, [], _∷_, map}
-use Prim.Native.Nat.{ℕ, zero, suc, _+_, _-_, _^_, _≤_}
+use Prim.Native.Nat.{ℕ, zero, suc, _+_, _-_, _≤_}
 use lib.ListN.{length, take, drop}
 use Rattle.std.specs.shelf.Maps.{nth}
-use Rattle.std.specs.declared.option.Option.{Option}
-use Rattle.std.specs.declared.option.Option.the-variants.{Some, None}
+use Rattle.std.specs.declared.option.Option.the-variants.{Some}
 use Rattle.line.specs.Lines.{Line}
 use Rattle.engine.specs.Model.{Model}
 use Rattle.page_rule.specs.Pages.{Page}
-use Rattle.page_rule.specs.Formatting.{Ending.complete, Ending.too-many-pages, Formatted, no-page, onto, page, pages-from, formatted}
-
--- what was item i is item j, if what was item `from` is item `to` and nothing between them came or went
-abbrev pub Moves : ℕ → ℕ → ℕ → ℕ → Type 0
-Moves from to i j = i + to ≡ j + from
-
--- the item that it is: `to` less `from` is added
-abbrev pub moved-item : ℕ → ℕ → ℕ → ℕ
-moved-item from to i = i + to - from
-
--- the same for a number of 64 bits: none, if it is no such number
-abbrev pub MovedGives : ℕ → ℕ → ℕ → Option ℕ → Type 0
-MovedGives from to i (Some j) = Moves from to i j
-MovedGives from to i None = (j : ℕ) → Moves from to i j → 2 ^ 64 ≤ j
-
--- a page of which only the first item moves
-abbrev pub moved : {M : Type 0} → ℕ → ℕ → Page M → Page M
-moved from to p = page (moved-item from to (p .first)) (p .items) (p .rows) (p .checkpoint)
+use Rattle.page_rule.specs.Formatting.{Ending.complete, Ending.too-many-pages, Formatted, no-page, onto, pages-from, formatted}
+use Rattle.page_rule.specs.Moving.{Moves, moved-item, moved}
 
 -- known pages up to the end, one by one: how many more there may be, and the number of the first of them
 abbrev pub replayed : {M : Type 0} → ℕ → ℕ → List (Page M) → Formatted M
@@ -50,15 +33,15 @@ pub record Alike {M : Type 0} (from to i j : ℕ) (s t : M) : Type 0 where
   pub same : s ≡ t
 
 pub record Tail-law {M : Type 0} (e : Model M) : Type 0 where
-  -- from item j on there are the pages from an old item i on, if the two are alike, the lines from both on are the same, and the old
-  -- pages from there on are complete
+  -- page number q and those behind it, from item j on, are the pages from an old item i on, if the two are alike, the lines from both
+  -- on are the same, and the old pages from i on, of which the first had number r and `more` were allowed, were complete
   pub from-item : (limit q j more r i from to : ℕ) (s t : M) (old now : List Line)
       → q ≤ limit
       → Alike from to i j s t
       → drop j now ≡ drop i old
       → pages-from e more r i s old .ending ≡ complete
       → Same-pages limit q from to (pages-from e more r i s old .pages) (pages-from e (limit - q) q j t now)
-  -- so there are an old page and those behind it, if it begins there
+  -- so they are old page number k and those behind it, if that page began at an item that is alike, with its checkpoint
   pub from-page : (limit q j k from to : ℕ) (t : M) (old now : List Line) (p : Page M)
       → q ≤ limit
       → formatted e limit old .ending ≡ complete
