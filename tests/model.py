@@ -1,5 +1,5 @@
 #!/usr/bin/env python3
-"""A model of `protocol`, written from the rules in docs/ alone, by somebody who had not seen the code.
+"""A model of `protocol`, written from the rules alone, before the program was there.
 The expected outputs in tests/cases and crates/protocol/stdout come from it; the gate does not run it.
 
 usage: model.py FILE              prints what `protocol number FILE` prints (status 1 on a refusal)
