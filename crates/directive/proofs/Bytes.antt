@@ -11,7 +11,7 @@ use Rattle.numerals.specs.Reads.{integer}
 use Rattle.directive.specs.declared.kinds.Argument.{Argument}
 use Rattle.directive.specs.declared.kinds.Takes.{Takes}
 use Rattle.directive.specs.declared.kinds.Takes.the-variants.{Number}
-use Rattle.directive.specs.Grammar.{Said, text, ranged, behind, lettered, said}
+use Rattle.directive.specs.Grammar.{text, ranged, lettered, said}
 
 module _ {L : Type 0} where
   pub argued : (takes : L → Takes) (letter : L) (a : Argument) (o : Option L) (bs : List ℕ) → o ≡ Some letter → takes letter ≡ Number a → 1 ≤ length bs → getD bs 0 0 ≡ 32 → lettered takes o bs ≡ ranged letter a (integer (a .minus) (a .digits) (drop 1 bs))

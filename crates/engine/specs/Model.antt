@@ -1,11 +1,10 @@
 -- An engine by the meanings of its states. Assumes nothing.
 use mathlib.Core.Path.{_≡_}
-use mathlib.Core.Bool.{false}
-use mathlib.Core.List.{List, [], _∷_, _++_}
-use Prim.Native.Nat.{ℕ, _*_, _≤_}
+use mathlib.Core.List.{List}
+use Prim.Native.Nat.{ℕ, _≤_}
 use lib.ListN.{length}
 use Rattle.std.specs.shelf.Lists.{All}
-use Rattle.line.specs.Lines.{Line, is-line}
+use Rattle.line.specs.Lines.{Line}
 
 -- the bytes of a row, and the most rows that one item gives
 abbrev pub row-width : ℕ

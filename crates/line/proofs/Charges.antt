@@ -1,7 +1,7 @@
 -- What lists of lines are charged after an edit. Assumes nothing.
 use mathlib.Core.Path.{_≡_, refl, sym, ap, _∙_}
 use mathlib.Core.List.{List, [], _∷_, _++_}
-use Prim.Native.Nat.{ℕ, suc, _+_, _≤_, _<_}
+use Prim.Native.Nat.{ℕ, suc, _+_, _<_}
 use native.Mathlib.Omega.{arith}
 use lib.ListN.{length, take, drop, set, getD}
 use Rattle.std.specs.Holes.{inserted, removed}
@@ -44,10 +44,6 @@ module _ (charge : ℕ → ℕ) where
       let a = charges-append (take at ls) (line ∷ drop (suc at) ls) in
       let e = ap (charges charge) (set-split ls at line h) in
       omega arith
-
-  -- one line is charged no more than all are
-  pub charge-within : (ls : List Line) (at : ℕ) → at < length ls → charge (length (getD ls at [])) ≤ charges charge ls
-  charge-within ls at h = let s = charges-around ls at h in omega arith
 
 -- where each line is charged 1, their number is charged
 pub charges-one : (ls : List Line) → charges (λ _. 1) ls ≡ length ls

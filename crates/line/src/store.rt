@@ -3,7 +3,7 @@ ghost use mathlib.Core.List.{List};
 ghost use Prim.Native.Nat.{ℕ};
 ghost use lib.ListN.{length};
 ghost use Rattle.line.specs.Lines.{Line};
-ghost use Rattle.line.specs.Stores.{store-limit, Kept, ReadGives, EditGives, Edit, Edit.replace as replaces, Edit.insert as inserts, Edit.remove as removes};
+ghost use Rattle.line.specs.Stores.{store-limit, Kept, ReadGives, EditGives, Edit.replace as replaces, Edit.insert as inserts, Edit.remove as removes};
 use super::fault::StoreFault;
 
 // The most bytes of a line.

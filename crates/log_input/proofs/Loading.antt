@@ -1,12 +1,12 @@
 -- Lines put into a store, one after the other. Assumes nothing.
-use mathlib.Core.Path.{_≡_, refl, sym, ap, subst, _∙_}
+use mathlib.Core.Path.{_≡_, refl, sym, ap, _∙_}
 use mathlib.Core.List.{List, [], _∷_, _++_, append-assoc}
-use Prim.Native.Nat.{ℕ, _+_, _<_, _≤_}
+use Prim.Native.Nat.{ℕ, _+_, _<_}
 use native.Mathlib.Omega.{arith}
-use lib.ListN.{length, take, drop, getD}
+use lib.ListN.{length, drop, getD}
 use Rattle.std.specs.declared.option.Option.{Option}
 use Rattle.std.specs.declared.option.Option.the-variants.{Some, None}
-use Rattle.std.proofs.shelf.Lists.{at-drop-more, at-drop-all, append-nil, take-all, drop-all}
+use Rattle.std.proofs.shelf.Lists.{at-drop-more, append-nil, take-all, drop-all}
 use Rattle.line.specs.Lines.{Line}
 use Rattle.line.specs.declared.fault.StoreFault.{StoreFault}
 use Rattle.line.specs.Stores.{Edit.insert, edited, edit-fault}

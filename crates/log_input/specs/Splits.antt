@@ -1,5 +1,5 @@
 -- The lines of an input: a line feed ends a line, and bytes behind the last line feed are a line too. Assumes nothing.
-use mathlib.Core.Bool.{Bool, cond}
+use mathlib.Core.Bool.{cond}
 use mathlib.Core.List.{List, [], _∷_, _++_}
 use mathlib.Core.Path.{_≡_}
 use Prim.Native.Nat.{ℕ}

@@ -1,8 +1,8 @@
 -- A row put together from its columns. Assumes nothing.
 use mathlib.Core.Path.{_≡_, refl, sym, ap, _∙_}
-use mathlib.Core.Bool.{Bool, true, false, cond}
+use mathlib.Core.Bool.{true}
 use mathlib.Core.List.{List, [], _∷_, _++_, append-assoc}
-use Prim.Native.Nat.{ℕ, _+_, _-_, _*_, _^_, _≤_, _<_}
+use Prim.Native.Nat.{ℕ, _+_, _-_, _≤_, _<_}
 use native.Mathlib.Omega.{arith}
 use borrow.Author.Tests.{le-ltb, le-leb, lt-leb}
 use borrow.Rule.Slice.PartMut.{putMid}
@@ -12,13 +12,12 @@ use lib.Signed.{mag, _≤ℤ_, _<ℤ_}
 use Rattle.std.specs.Results.{isOk}
 use Rattle.std.specs.Written.{signed}
 use Rattle.std.specs.declared.result.Result.{Result}
-use Rattle.std.specs.declared.result.Result.the-variants.{Ok, Err}
 use Rattle.std.proofs.shelf.Decimals.{length-signed-le, length-decimal-le}
 use Rattle.std.proofs.shelf.Lists.{take-at, drop-at, drop-drop, append-nil, length-append, length-replicate, replicate-append-replicate, take-all, take-rest, take-append-drop, length-take-le, length-drop}
 use Rattle.std.proofs.shelf.Signed.{ints}
 use Rattle.numerals.specs.declared.write.FieldFault.{FieldFault}
 use Rattle.numerals.specs.Fields.{field, placed, verdict, Field-law}
-use Rattle.engine.specs.Promise.{joined, fronted}
+use Rattle.engine.specs.Promise.{fronted}
 use Rattle.numberer.specs.Rows.{padded, rows-of}
 
 -- something is put over what stands behind a

@@ -1,29 +1,27 @@
 -- Steps of the numberer: their rows are rows, and what the code computes is the turn and the stop. Assumes nothing.
-use mathlib.Core.Path.{_≡_, refl, sym, ap, _∙_}
+use mathlib.Core.Path.{_≡_, refl, _∙_}
 use mathlib.Core.Bool.{Bool, true, false, cond}
 use mathlib.Core.List.{List, [], _∷_, _++_}
-use Prim.Native.Nat.{ℕ, _+_, _-_, _≤_, _<_}
+use Prim.Native.Nat.{ℕ, _-_, _≤_}
 use native.Mathlib.Omega.{arith}
 use lib.Dec.{leb}
-use lib.IntN.{ℤ, pos, negsuc, natAbs, _+ℤ_}
+use lib.IntN.{ℤ, pos, natAbs, _+ℤ_}
 use lib.ListN.{length, take, drop, replicate}
-use lib.Signed.{ltZ, leZ, _<ℤ_, _≤ℤ_}
+use lib.Signed.{ltZ, _<ℤ_}
 use Rattle.std.specs.Options.{Cases}
 use Rattle.std.specs.declared.option.Option.{Option}
-use Rattle.std.specs.declared.option.Option.the-variants.{Some, None}
+use Rattle.std.specs.declared.option.Option.the-variants.{Some}
 use Rattle.std.proofs.shelf.Lists.{length-append, length-replicate, length-take, length-drop}
 use Rattle.std.proofs.shelf.Results.{cases-at-some}
 use Rattle.std.proofs.shelf.Signed.{ints}
-use Rattle.std.proofs.shelf.Ways.{tells}
 use Rattle.line.specs.Lines.{Line, is-line}
 use Rattle.line.proofs.Edits.{line-short}
-use Rattle.engine.specs.Model.{Row, Stepped, Stepped.goes, Sized, SizedStep, no-line}
+use Rattle.engine.specs.Model.{Stepped, Stepped.goes, Sized, SizedStep, no-line}
 use Rattle.division.specs.declared.divisor.Divisor.{Divisor}
 use Rattle.division.specs.Floor.{quotient, remainder}
 use Rattle.numerals.proofs.RightAligned.{law}
 use Rattle.numerals.specs.Fields.{field}
-use Rattle.directive.specs.declared.kinds.Argument.{Argument}
-use Rattle.directive.specs.Grammar.{Said, Said.text, Said.directive, Said.malformed, in-range, said}
+use Rattle.directive.specs.Grammar.{Said, Said.text, Said.directive, Said.malformed, said}
 use Rattle.directive.proofs.Sound.{Sound, Taken, sound}
 use Rattle.numberer.specs.declared.letter.NumberLetter.{NumberLetter}
 use Rattle.numberer.specs.declared.letter.NumberLetter.the-variants.{SetNumber, SetStops}

@@ -1,9 +1,8 @@
 ghost use mathlib.Core.Path.{_≡_};
 ghost use mathlib.Core.List.{_++_};
 ghost use Prim.Native.Nat.{_≤_, _<_};
-ghost use lib.IntN.{natAbs};
 ghost use lib.ListN.{length, replicate};
-ghost use lib.IntN.{pos};
+ghost use lib.IntN.{pos, natAbs};
 ghost use lib.Signed.{mag, _≤ℤ_, _<ℤ_};
 ghost use Rattle.line.specs.Lines.{line-limit};
 ghost use Rattle.engine.specs.Model.{row-width};

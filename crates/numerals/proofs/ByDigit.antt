@@ -1,38 +1,28 @@
 -- How a number is read, digit by digit. Assumes nothing.
-use mathlib.Core.Path.{_≡_, refl, sym, ap, _∙_}
-use mathlib.Core.Bool.{Bool, true, false, cond, _&&_}
+use mathlib.Core.Path.{_≡_, refl, ap, _∙_}
+use mathlib.Core.Bool.{Bool, true, false, cond}
 use mathlib.Core.List.{List, [], _∷_}
 use Prim.Native.Nat.{ℕ, suc, zero, _+_, _-_, _*_, _^_, _<_, _≤_, min}
 use native.Mathlib.Omega.{arith}
 use borrow.Author.Needs.{needs}
-use borrow.Author.Tests.{le-leb, lt-leb, eq-eqb, ne-eqb, eqb-false}
-use lib.Dec.{eqb, leb}
-use lib.IntN.{ℤ, pos, negsuc, negℤ, natAbs}
+use borrow.Author.Tests.{le-leb, eq-eqb, ne-eqb, eqb-false}
+use lib.Dec.{eqb}
+use lib.IntN.{pos, negsuc, negℤ}
 use lib.ListN.{length, getD, drop}
 use Rattle.std.specs.Options.{mapped}
 use Rattle.std.specs.Text.{asciiDigit}
-use Rattle.std.specs.Written.{decimal, signed}
+use Rattle.std.specs.Written.{decimal}
 use Rattle.std.specs.shelf.Text.{allDigits}
 use Rattle.std.specs.declared.option.Option.{Option}
 use Rattle.std.specs.declared.option.Option.the-variants.{Some, None}
 use Rattle.std.proofs.shelf.Lists.{at-drop-more, at-drop-all}
 use Rattle.std.proofs.shelf.Numerals.{Numerals, numerals-by-fold}
 use Rattle.std.proofs.shelf.Decimals.{digits-decimal, value-decimal, length-decimal-le, decimal-some, first-decimal, decimal-digit}
-use Rattle.std.proofs.shelf.Ways.{tells}
 use Rattle.numerals.specs.Reads.{digit-limit, numeral, natural, integer, Reads-back}
 
 -- the bytes that are left to read, behind digits that write n
 abbrev pub reading : ℕ → List ℕ → Option ℕ
 reading n bs = cond (allDigits bs) (Some (numeral n bs)) None
-
-pub digit-yes : (b : ℕ) → 48 ≤ b → b ≤ 57 → asciiDigit b ≡ true
-digit-yes b l h = simp (le-leb 48 b l, le-leb b 57 h)
-
-pub digit-low : (b : ℕ) → b < 48 → asciiDigit b ≡ false
-digit-low b l = simp (lt-leb 48 b l)
-
-pub digit-high : (b : ℕ) → 57 < b → asciiDigit b ≡ false
-digit-high b h = let l : 48 ≤ b = omega arith in simp (le-leb 48 b l, lt-leb b 57 h)
 
 pub reading-more : (n i : ℕ) (bs : List ℕ) → i < length bs → asciiDigit (getD bs i 0) ≡ true → reading n (drop i bs) ≡ reading (n * 10 + (getD bs i 0 - 48)) (drop (i + 1) bs)
 reading-more n i bs h e = simp (at-drop-more (reading n) bs i 0 h, e)
@@ -50,13 +40,6 @@ nonempty (b ∷ bs) e = omega arith
 -- within the limits the digits decide
 pub natural-is : (most : ℕ) (bs : List ℕ) → 1 ≤ length bs → length bs ≤ min most digit-limit → natural most bs ≡ reading 0 bs
 natural-is most bs some few = simp (le-leb 1 (length bs) some, le-leb (length bs) (min most digit-limit) few)
-
-pub natural-long : (most : ℕ) (bs : List ℕ) → min most digit-limit < length bs → natural most bs ≡ None
-natural-long most bs l = let h : 1 ≤ length bs = omega arith in simp (le-leb 1 (length bs) h, lt-leb (length bs) (min most digit-limit) l)
-
-pub natural-none : (most : ℕ) (bs : List ℕ) → length bs ≡ 0 → natural most bs ≡ None
-natural-none most [] l = refl
-natural-none most (b ∷ bs) l = absurd (omega arith)
 
 -- with a minus in front, or none
 pub minus : (m : Bool) (most : ℕ) (bs : List ℕ) → m ≡ true → 0 < length bs → getD bs 0 0 ≡ 45 → integer m most bs ≡ mapped (λ n. negℤ (pos n)) (natural most (drop 1 bs))

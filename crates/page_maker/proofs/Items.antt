@@ -1,19 +1,17 @@
 -- One item, by the lines from it on. Assumes nothing.
-use mathlib.Core.Path.{_≡_, refl, sym, ap, subst, _∙_}
-use mathlib.Core.List.{List, [], _∷_, _++_}
+use mathlib.Core.Path.{_≡_, sym, ap, subst, _∙_}
+use mathlib.Core.List.{List, [], _++_}
 use Prim.Native.Nat.{ℕ, _-_, _≤_, _<_}
 use native.Mathlib.Omega.{arith}
 use lib.ListN.{length, take, drop, getD, drop-of-length-le}
 use lib.Seq.{drop-cons}
-use Rattle.std.specs.declared.option.Option.{Option}
-use Rattle.std.specs.declared.option.Option.the-variants.{Some, None}
 use Rattle.std.proofs.shelf.Lists.{take-at}
 use Rattle.line.specs.Lines.{Line}
-use Rattle.engine.specs.Model.{Row, Stepped, Stepped.goes, Model}
+use Rattle.engine.specs.Model.{Stepped, Stepped.goes, Model}
 use Rattle.page_rule.specs.Filling.{stepped}
 use Rattle.page_maker.specs.declared.made.Placed.{Placed}
 use Rattle.page_maker.specs.declared.made.Placed.the-variants.{On, End, Over, Refused}
-use Rattle.page_maker.specs.Promise.{LineGives, EndGives, PlaceGives, ItemOn, ItemOver}
+use Rattle.page_maker.specs.Promise.{LineGives, PlaceGives, ItemOn, ItemOver}
 
 -- the line at the front of the buffer that it was read to
 pub read-is : (line before after : List ℕ) (n : ℕ) → n ≡ length line → after ≡ line ++ drop n before → take (n - 0) after ≡ line

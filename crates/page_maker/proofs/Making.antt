@@ -1,33 +1,23 @@
 -- From a filled page to what the rule has from a position on. Assumes nothing.
 use mathlib.Core.Path.{_≡_, refl, sym, ap, subst, _∙_}
-use mathlib.Core.Bool.{true, false, cond}
-use mathlib.Core.List.{List, [], _∷_, _++_}
+use mathlib.Core.List.{List, [], _∷_}
 use Prim.Native.Nat.{ℕ, suc, _+_, _-_, _≤_, _<_}
 use native.Mathlib.Omega.{arith}
 use borrow.Author.Tests.{le-leb, lt-leb}
-use lib.Dec.{leb}
 use lib.ListN.{length, drop}
 use Rattle.std.specs.declared.option.Option.{Option}
 use Rattle.std.specs.declared.option.Option.the-variants.{Some, None}
-use Rattle.std.specs.declared.result.Result.{Result}
-use Rattle.std.specs.declared.result.Result.the-variants.{Ok, Err}
 use Rattle.line.specs.Lines.{Line}
-use Rattle.engine.specs.Model.{Row, Model}
-use Rattle.page_rule.specs.Filling.{Filled, Filled.last, Filled.full, Filled.stuck, fill}
-use Rattle.page_rule.specs.Formatting.{Ending.complete, Ending.line-refused, Ending.too-many-pages, Formatted, no-page, onto, page, pages-from, formatted}
+use Rattle.engine.specs.Model.{Model}
+use Rattle.page_rule.specs.Filling.{Filled, Filled.last, Filled.full, fill}
+use Rattle.page_rule.specs.Formatting.{Ending.line-refused, no-page, onto, page, pages-from}
 use Rattle.page_rule.proofs.Views.{from-last, from-full, from-stuck}
 use Rattle.page_maker.specs.declared.fault.LineFault.{LineFault}
-use Rattle.page_maker.specs.declared.fault.PageFault.{PageFault}
-use Rattle.page_maker.specs.declared.fault.PageFault.the-variants.{Engine, TooManyPages}
 use Rattle.page_maker.specs.declared.made.Position.{Position}
-use Rattle.page_maker.specs.declared.made.Made.{Made}
 use Rattle.page_maker.specs.declared.made.Filling.{Filling}
-use Rattle.page_maker.specs.Promise.{ahead, behind, PageMade, LineRefused, NoMorePages, Lies, Stops, Filled-to}
+use Rattle.page_maker.specs.Promise.{ahead, PageMade, LineRefused, Lies, Stops, Filled-to}
 
 module _ {M S : Type 0} (means : S → M) (e : Model M) (lines : List Line) (limit : ℕ) (at : Position S) where
-  filled : Filled M
-  filled = fill e (drop (at .first) lines) (means (at .state)) 0 []
-
   -- one page of those that may come
   one-of : at .page < limit → ahead means e lines limit at ≡ pages-from e (suc (limit - at .page - 1)) (at .page) (at .first) (means (at .state)) lines
   one-of h = let k : limit - at .page ≡ suc (limit - at .page - 1) = omega arith in ap (λ n. pages-from e n (at .page) (at .first) (means (at .state)) lines) k
@@ -73,15 +63,6 @@ module _ {M S : Type 0} (means : S → M) (e : Model M) (lines : List Line) (lim
         ∙ from-stuck e lines (limit - at .page - 1) (at .page) (at .first) (s .items) (fault .fault .cause) (fault .fault .column) (means (at .state)) (s .set) (s .rule)
         ∙ (λ i. no-page (line-refused (fault .fault .cause) (fault .fault .column) (sym (s .line) i) (sym (s .page) i)));
     body = s .holds;
-  }
-
-  pub one-too-many : (before : List ℕ) → limit ≤ at .page → NoMorePages means e lines limit at (at .first) limit before before
-  one-too-many before h = record {
-    over = h;
-    item = refl;
-    pages = refl;
-    rule = λ q. (let k : limit - at .page ≡ 0 = omega arith in ap (λ n. pages-from e n (at .page) (at .first) (means (at .state)) lines) k ∙ ap (λ p. no-page (too-many-pages (at .first) p)) q);
-    body = refl;
   }
 
 -- a page that was filled, by whether the end is on it

@@ -1,21 +1,19 @@
 -- Rows in a body. Assumes nothing.
 use mathlib.Core.Path.{_≡_, refl, sym, ap, subst, _∙_}
 use mathlib.Core.List.{List, [], _∷_, _++_, append-assoc}
-use Prim.Native.Nat.{ℕ, zero, suc, _+_, _-_, _*_, _≤_, _<_}
+use Prim.Native.Nat.{ℕ, _+_, _-_, _*_, _≤_}
 use native.Mathlib.Omega.{arith}
-use lib.ListN.{length, take, drop, getD, replicate, length-append, length-drop, length-take, drop-of-length-le}
-use lib.Seq.{paste, drop-drop, take-take}
+use lib.ListN.{length, take, drop, replicate, length-drop, length-take, drop-of-length-le}
+use lib.Seq.{paste, drop-drop}
 use borrow.Rule.Slice.PartMut.{putMid}
 use Rattle.std.proofs.shelf.Lists.{take-at, append-nil}
-use Rattle.std.specs.shelf.Lists.{All}
 use Rattle.std.specs.declared.result.Result.{Result}
-use Rattle.std.specs.declared.result.Result.the-variants.{Ok, Err}
+use Rattle.std.specs.declared.result.Result.the-variants.{Ok}
 use Rattle.engine.specs.declared.EngineFault.{EngineFault}
-use Rattle.line.specs.Lines.{Line}
-use Rattle.engine.specs.Model.{Row, Stepped, Stepped.goes, Stepped.refuses, Model, Sized, SizedStep}
-use Rattle.engine.specs.Promise.{StepGives, CloseGives, Done, Refused, joined, fronted}
+use Rattle.engine.specs.Model.{Row, Stepped, Stepped.goes, Sized, SizedStep}
+use Rattle.engine.specs.Promise.{StepGives, Done, joined, fronted}
 use Rattle.page_rule.proofs.Bodies.{length-joined}
-use Rattle.page_maker.specs.Promise.{ItemOn, ItemOver}
+use Rattle.page_maker.specs.Promise.{ItemOn}
 
 pub pasted : (d s ys : List ℕ) (at n : ℕ) → ys ≡ take (n - 0) (drop 0 s) → putMid at (at + n - at) d ys ≡ paste d at s n
 pasted d s ys at n h =
@@ -58,10 +56,6 @@ module _ {M : Type 0} where
         fits = h;
         holds = a ∙ ap (λ l. take (rows * 72) before ++ l ++ drop (rows * 72 + n * 72) before) f ∙ ap (λ i. take (rows * 72) before ++ joined given ++ drop i before) u;
       }
-
-  pub over-page : (x : Stepped M) (t : M) (given : List Row) (n rows : ℕ) (before : List ℕ) → x ≡ goes t given → n ≡ length given → Sized given → 40 < rows + n → ItemOver x rows before before
-  over-page x t given n rows before q k z h =
-      record { next = t; given = given; step = q; few = z .few; over = omega arith; same = refl }
 
   -- the rows of a step that goes on are rows
   pub sized-goes : (x : Stepped M) (t : M) (given : List Row) → x ≡ goes t given → SizedStep x → Sized given

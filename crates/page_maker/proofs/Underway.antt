@@ -1,6 +1,6 @@
 -- A page that is being made, item by item. Assumes nothing.
 use mathlib.Core.Path.{_≡_, refl, sym, ap, subst, _∙_}
-use mathlib.Core.List.{List, [], _∷_, _++_, append-assoc}
+use mathlib.Core.List.{List, [], _∷_, _++_}
 use Prim.Native.Nat.{ℕ, suc, max, _+_, _-_, _*_, _≤_, _<_}
 use native.Mathlib.Omega.{arith}
 use native.Mathlib.Numerals.{add-one}
@@ -12,8 +12,7 @@ use Rattle.std.proofs.shelf.Parts.{drop-append-drop}
 use Rattle.line.specs.Lines.{Line}
 use Rattle.engine.specs.Model.{Row, Stepped, Stepped.goes, Stepped.refuses, Model, step-rows}
 use Rattle.engine.specs.Promise.{joined, fronted}
-use Rattle.page_rule.specs.Pages.{body}
-use Rattle.page_rule.specs.Filling.{Filled, Filled.last, Filled.full, Filled.stuck, stepped, fill}
+use Rattle.page_rule.specs.Filling.{Filled.last, Filled.full, Filled.stuck, stepped, fill}
 use Rattle.page_rule.proofs.Views.{Fills, fills, fill-is}
 use Rattle.page_maker.specs.declared.fault.LineFault.{LineFault}
 use Rattle.page_maker.specs.Promise.{ItemOn, ItemOver, Lies, Stops}

@@ -1,7 +1,7 @@
 // Makes one page by the page rule, over any engine and any line store.
 ghost use mathlib.Core.Path.{_≡_};
 ghost use mathlib.Core.List.{List, [], _++_};
-ghost use Prim.Native.Nat.{ℕ, _+_, _-_, _*_, _≤_, _<_};
+ghost use Prim.Native.Nat.{ℕ, _+_, _-_, _*_, _≤_};
 ghost use lib.ListN.{length, drop, take, replicate};
 ghost use lib.Seq.{paste};
 ghost use Rattle.line.specs.Lines.{Line};

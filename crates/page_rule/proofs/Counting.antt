@@ -9,7 +9,6 @@ use lib.Dec.{leb}
 use lib.ListN.{length, drop, length-drop}
 use Rattle.line.specs.Lines.{Line}
 use Rattle.engine.specs.Model.{Row, Model}
-use Rattle.page_rule.specs.Pages.{steps}
 use Rattle.page_rule.specs.Filling.{Filled, Filled.last, Filled.full, Filled.stuck, fill}
 use Rattle.page_rule.specs.Formatting.{Ending.complete, Formatted}
 use Rattle.page_rule.specs.Steps.{all-steps, Steps-law}

@@ -3,12 +3,11 @@ use mathlib.Core.Path.{_≡_, refl, subst⁻¹}
 use mathlib.Core.Bool.{Bool, true, false}
 use mathlib.Core.List.{List, [], _∷_, _++_}
 use Prim.Native.Nat.{ℕ, zero, suc, _+_}
-use lib.ListN.{length, drop}
+use lib.ListN.{drop}
 use Rattle.line.specs.Lines.{Line}
 use Rattle.engine.specs.Model.{Row, Stepped, Stepped.goes, Stepped.refuses, Model}
-use Rattle.page_rule.specs.Pages.{Page}
 use Rattle.page_rule.specs.Filling.{Filled, Filled.last, Filled.full, Filled.stuck, fits, fill}
-use Rattle.page_rule.specs.Formatting.{Ending, Ending.complete, Ending.too-many-pages, Ending.line-refused, Formatted, no-page, onto, page, pages-from}
+use Rattle.page_rule.specs.Formatting.{Ending.complete, Ending.too-many-pages, Ending.line-refused, Formatted, no-page, onto, page, pages-from}
 
 module _ {M : Type 0} (e : Model M) where
   pub data Fills : List Line → M → ℕ → List Row → Filled M → Type 0 where

@@ -5,7 +5,7 @@ use lib.ListN.{drop}
 use Rattle.line.specs.Lines.{Line}
 use Rattle.engine.specs.Model.{Row, Model}
 use Rattle.page_rule.specs.Pages.{Page}
-use Rattle.page_rule.specs.Filling.{Filled, Filled.last, Filled.full, Filled.stuck, fill}
+use Rattle.page_rule.specs.Filling.{Filled.last, Filled.full, Filled.stuck, fill}
 
 -- a formatting ends with the end of the text on a page; or where the engine refuses a line, with its cause and column, that line
 -- and the number of the page being made; or where one page too many has to be begun, with that page's first item and the limit

@@ -5,7 +5,7 @@ use Prim.Native.Nat.{ℕ, zero, suc, _+_, _-_, _*_}
 use native.Mathlib.Omega.{arith}
 use native.Mathlib.Numerals.{add-one}
 use lib.ListN.{take, drop}
-use Rattle.std.proofs.shelf.Lists.{drop-drop, append-nil}
+use Rattle.std.proofs.shelf.Lists.{drop-drop}
 use Rattle.report.specs.Texts.{rows-text}
 
 row-more : (k : ℕ) (body : List ℕ) → rows-text (suc k) body ≡ rows-text k body ++ (take 72 (drop (k * 72) body) ++ (10 ∷ []))

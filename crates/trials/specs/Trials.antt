@@ -8,9 +8,9 @@ use lib.ListN.{length, replicate}
 use Rattle.line.specs.Lines.{Line}
 use Rattle.engine.specs.Model.{Stepped, Stepped.goes, Stepped.refuses, Model}
 use Rattle.division.specs.Floor.{quotient, remainder}
-use Rattle.numberer.specs.Numbering.{Numbering, numbering}
+use Rattle.numberer.specs.Numbering.{numbering}
 use Rattle.page_rule.specs.Pages.{Page, steps}
-use Rattle.page_rule.specs.Formatting.{Ending.complete, Formatted, formatted}
+use Rattle.page_rule.specs.Formatting.{Ending.complete, formatted}
 
 -- at v, with m stops a turn, the turn is t and the stop p
 abbrev pub Means : ℤ → ℕ → ℤ → ℕ → Type 0

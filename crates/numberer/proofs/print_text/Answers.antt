@@ -1,6 +1,5 @@
-use mathlib.Core.Path.{_≡_, _∙_}
+use mathlib.Core.Path.{_≡_}
 use native.Mathlib.Omega.{arith}
-use borrow.Author.Needs.{needs}
 use lib.IntN.{pos, natAbs, _+ℤ_}
 use lib.Signed.{_<ℤ_}
 use mir.Syntax.{w32}

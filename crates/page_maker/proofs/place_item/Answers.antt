@@ -1,9 +1,8 @@
-use mathlib.Core.Path.{_≡_, sym}
 use mathlib.Core.List.{[]}
 use Prim.Native.Nat.{_-_, _≤_}
 use native.Mathlib.Omega.{arith}
 use borrow.Author.Needs.{needs}
-use lib.ListN.{length, take, getD}
+use lib.ListN.{take, getD}
 use Rattle.line.proofs.Short.{kept-short}
 use Rattle.page_maker.proofs.Items.{read-is, line-placed, end-on, end-over}
 use Rattle.page_maker.proofs.place_item.Needs as need

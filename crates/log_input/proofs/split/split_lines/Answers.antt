@@ -1,13 +1,13 @@
-use mathlib.Core.Path.{_≡_, refl, sym, ap, subst, _∙_}
-use mathlib.Core.List.{List, [], _∷_, _++_, map}
-use Prim.Native.Nat.{ℕ, _+_, _-_, _≤_}
+use mathlib.Core.Path.{_≡_, ap, _∙_}
+use mathlib.Core.List.{[], _∷_, _++_, map}
+use Prim.Native.Nat.{_+_, _-_}
 use native.Mathlib.Omega.{arith}
 use denote.Ref.{now}
-use lib.ListN.{take, drop, getD, length}
+use lib.ListN.{take, drop, length}
 use Rattle.std.specs.Of.Vec.{vec-items}
 use Rattle.std.proofs.shelf.Lists.{map-push}
 use Rattle.std.proofs.shelf.Results.{made-from-err}
-use Rattle.log_input.specs.Splits.{split, Unbroken}
+use Rattle.log_input.specs.Splits.{split}
 use Rattle.log_input.proofs.Splitting.{feed-again, longer, none-yet, rest-again, no-rest, law}
 use Rattle.log_input.proofs.split.split_lines.Needs as need
 use Rattle.log_input.proofs.split.split_lines.Needs.{then-byte-eq-LINE-FEED·in-Continue-push, else-byte-eq-LINE-FEED, then-start-input·in-Continue-push-2, else-start-input}

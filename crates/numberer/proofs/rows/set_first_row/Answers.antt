@@ -1,14 +1,10 @@
 use mathlib.Core.Path.{_≡_, ap, _∙_}
-use mathlib.Core.Bool.{true, cond}
 use Prim.Native.Nat.{ℕ, _+_, _-_, _≤_}
 use native.Mathlib.Omega.{arith}
 use borrow.Rule.Slice.PartMut.{putMid}
-use lib.IntN.{pos}
 use lib.ListN.{length, replicate}
 use mir.Syntax.{w32}
-use mir.Val.{toZ, ofZ, SFits}
 use Rattle.std.proofs.shelf.Signed.{ints, toZ-ofZ}
-use Rattle.std.specs.Results.{isOk}
 use Rattle.numerals.specs.Fields.{placed}
 use Rattle.numberer.proofs.Columns.{first, fits, turn-size, stop-size}
 use Rattle.numberer.proofs.rows.set_first_row.Needs as need

@@ -1,14 +1,11 @@
-use mathlib.Core.Path.{_≡_, refl, sym, _∙_}
-use mathlib.Core.Bool.{true, false}
-use Prim.Native.Nat.{ℕ, _+_, _*_, _≤_, _<_, _^_, min}
+use mathlib.Core.Path.{_≡_, sym, _∙_}
+use Prim.Native.Nat.{ℕ, _+_, _*_, _≤_, _^_, min}
 use native.Mathlib.Omega.{arith}
 use native.Mathlib.Numerals.{add-one}
 use native.Mathlib.Nat.{pow-suc, pow-le-pow-right}
-use borrow.Author.Needs.{needs}
-use lib.ListN.{length, getD}
-use Rattle.std.specs.Text.{asciiDigit}
+use lib.ListN.{length}
 use Rattle.numerals.specs.Reads.{digit-limit}
-use Rattle.numerals.proofs.ByDigit.{reading, reading-more, reading-none, reading-all, natural-is, nonempty}
+use Rattle.numerals.proofs.ByDigit.{reading-more, reading-none, reading-all, natural-is, nonempty}
 use Rattle.numerals.proofs.read.natural.Needs as need
 
 powers : (i j : ℕ) → i ≤ j → 10 ^ i ≤ 10 ^ j

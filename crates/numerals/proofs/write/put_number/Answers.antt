@@ -1,6 +1,6 @@
-use mathlib.Core.Path.{_≡_, refl, ap, subst, sym, _∙_}
+use mathlib.Core.Path.{_≡_, refl, ap}
 use borrow.Author.Needs.{needs}
-use Prim.Native.Nat.{_+_, _<_, _≤_}
+use Prim.Native.Nat.{_+_, _≤_}
 use native.Mathlib.Omega.{arith}
 use borrow.Author.Tests.{le-ltb}
 use lib.IntN.{pos, natAbs}
@@ -8,7 +8,7 @@ use lib.ListN.{length}
 use lib.Signed.{_<ℤ_, _≤ℤ_}
 use mir.Syntax.{w32}
 use mir.Val.{toZ, ofZ}
-use Rattle.std.specs.Written.{decimal, signed}
+use Rattle.std.specs.Written.{signed}
 use Rattle.std.proofs.shelf.Signed.{ints, toZ-ofZ}
 use Rattle.numerals.proofs.RightAligned.{Stands, signed-below, stands-below, stands-above, padded, law}
 use Rattle.numerals.proofs.write.put_number.Needs as need
