@@ -1,4 +1,6 @@
 // Lines that are text, and lines that are directives to an engine.
+#![tactic(auto)]
+
 ghost use Rattle.std.specs.Prelude.{◌≡◌, ℕ, Option};
 ghost use Rattle.directive.specs.declared.kinds.Takes.{Takes};
 ghost use Rattle.numerals.specs.Reads.{integer as integer_of};
@@ -66,7 +68,7 @@ fn parse_directive<'a, L: Letter>(
     letter: Option<L>,
     rest: &[u8],
 ) -> Result<Parsed<'a, L>, EngineFault>
-    ensures { answered result ≡ lettered takes letter rest.now }
+    ensures { answered result ≡ lettered L.takes letter rest.now }
 {
     let Some(letter) = letter else {
         return Err(UNKNOWN_LETTER);
@@ -85,7 +87,7 @@ fn parse_directive<'a, L: Letter>(
 
 // What a line says to an engine with the letters L.
 pub fn parse_line<'a, L: Letter>(line: &'a [u8]) -> Result<Parsed<'a, L>, EngineFault>
-    ensures { answered result ≡ said spelled takes line.now }
+    ensures { answered result ≡ said L.spelled L.takes line.now }
 {
     match line {
         [b'.', b'.', ..] => Ok(Parsed::Text { text: &line[1..] }),

@@ -1,4 +1,6 @@
 // Floor division, from the division toward zero that the machine has.
+#![tactic(auto)]
+
 ghost use Rattle.std.specs.Prelude.{◌≡◌, pos, unsigned_abs};
 ghost use Rattle.division.specs.Floor.{quotient, remainder, Floors, FloorLaw};
 

@@ -1,4 +1,6 @@
 // The engine interface: an engine is known by the meaning of its states.
+#![tactic(auto)]
+
 ghost use Rattle.std.specs.Prelude.{◌≡◌, false, Decides};
 ghost use Rattle.line.specs.Lines.{Line, is_line};
 ghost use Rattle.engine.specs.Model.{Model, Sized, SizedStep, no_line, row_width, step_rows};

@@ -1,4 +1,6 @@
 // A formatting, page after page, with the numbers that are printed of it.
+#![tactic(auto)]
+
 ghost use Rattle.formatting.specs.Promise.{NextGives};
 ghost use Rattle.page_rule.specs.Steps.{StepsLaw};
 

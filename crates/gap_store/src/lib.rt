@@ -1,4 +1,6 @@
 // A line store with a gap, which edits move to their place.
+#![tactic(auto)]
+
 mod edit;
 mod gap;
 mod moves;

@@ -1,4 +1,6 @@
 // What a line is, and the line store by its meaning.
+#![tactic(auto)]
+
 mod check;
 mod fault;
 mod layer;

@@ -1,4 +1,6 @@
 // From the bytes of a log to the lines of a store.
+#![tactic(auto)]
+
 mod load;
 mod split;
 

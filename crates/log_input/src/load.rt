@@ -5,7 +5,7 @@ use line::{LineStore, StoreFault};
 
 // Puts lines behind those of the store, up to the first that it refuses.
 pub fn load_lines<L: LineStore>(store: &mut L, log: &[&[u8]]) -> Result<(), StoreFault>
-    ensures list { LoadGives lines capacity charge store.old (map (λ x. x.now) log.now) result store.new }
+    ensures list { LoadGives L.lines L.capacity L.charge store.old (map (λ x. x.now) log.now) result store.new }
     ensures law { LoadLaw }
 {
     for line in log {

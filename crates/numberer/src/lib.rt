@@ -1,4 +1,6 @@
 // The numberer: an engine that prints each line as it came, with the turn and stop that its number means.
+#![tactic(auto)]
+
 ghost use Rattle.std.specs.Prelude.{◌≡◌, ◌≤◌, [], length};
 ghost use Rattle.line.specs.Lines.{line_limit};
 ghost use Rattle.engine.specs.Model.{Stepped.goes};

@@ -1,4 +1,6 @@
 // Decimal numbers in a line and in a row.
+#![tactic(auto)]
+
 mod read;
 mod write;
 

@@ -23,6 +23,7 @@ fn natural(text: &[u8], most: usize) -> Option<u32>
 }
 
 // A decimal argument of at most `most` digits, with a minus in front where one is allowed.
+#[tactic(auto, using(crate::proofs::ByDigit::reads_back))]
 pub fn integer(text: &[u8], minus: bool, most: usize) -> Option<i32>
     ensures value { result ≡ integer_of minus most text.now }
     ensures back { ReadsBack }

@@ -1,4 +1,6 @@
 // The page index: every value of its type keeps what an index must keep.
+#![tactic(auto)]
+
 mod changes;
 mod fault;
 mod finds;

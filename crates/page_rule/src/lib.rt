@@ -1,4 +1,6 @@
 // The page rule: its definitions and laws are in specs/, and the proofs of the laws in proofs/.
+#![tactic(auto)]
+
 mod marks;
 mod rule;
 

@@ -26,16 +26,16 @@ pub fn body_bytes() -> usize
 // The most pages that an engine gives to a text of so many lines, under a limit.
 pub fn most_pages<E: Engine>(engine: &E, line_count: usize, limit: usize) -> usize
     ensures count { result ≡ most_pages limit line_count }
-    ensures shape { ShapeLaw (model engine.now) }
-    ensures steps { StepsLaw (model engine.now) }
+    ensures shape { ShapeLaw (E.model engine.now) }
+    ensures steps { StepsLaw (E.model engine.now) }
 {
     limit.min(line_count.saturating_add(1))
 }
 
 // The state from which a page is made again: its checkpoint, or the start state where there is none.
 pub fn restart_state<E: Engine>(engine: &E, checkpoint: Option<E::State>) -> E::State
-    ensures state { UnwrapsOrElse checkpoint (λ s. means s ≡ (model engine.now).start) result }
-    ensures law { HeadLaw (model engine.now) }
+    ensures state { UnwrapsOrElse checkpoint (λ s. E.means s ≡ (E.model engine.now).start) result }
+    ensures law { HeadLaw (E.model engine.now) }
 {
     match checkpoint {
         Some(state) => state,
@@ -65,8 +65,8 @@ pub fn same_start<E: Engine>(
     from: usize,
     to: usize,
 ) -> bool
-    ensures answer { Decides result (Alike from to old_item item (means old_state.now) (means state.now)) }
-    ensures law { TailLaw (model engine.now) }
+    ensures answer { Decides result (Alike from to old_item item (E.means old_state.now) (E.means state.now)) }
+    ensures law { TailLaw (E.model engine.now) }
 {
     match moved_item(old_item, from, to) {
         Some(place) => place == item && engine.same(old_state, state),

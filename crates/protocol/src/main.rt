@@ -1,4 +1,6 @@
 // Formats a log into pages and prints them with the steps that they took.
+#![tactic(auto)]
+
 use anyhow::anyhow;
 use engine::Engine;
 use formatting::{Printed, next_page};

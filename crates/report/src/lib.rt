@@ -1,4 +1,6 @@
 // What is printed of a formatting.
+#![tactic(auto)]
+
 ghost use Rattle.std.specs.Prelude.{◌≡◌, IfOk, Some};
 ghost use Rattle.report.specs.Texts.{page_head, page_text, totals};
 

@@ -1,4 +1,6 @@
 // A line store in slots of one size.
+#![tactic(auto)]
+
 mod bytes;
 mod edit;
 mod store;

@@ -1,5 +1,7 @@
 // Times edits and reads of a line store: store_bench STORE PLACE TURNS. The time goes to standard error, a sum of what was read to
 // standard output.
+#![tactic(auto)]
+
 use anyhow::Context;
 use gap_store::GapStore;
 use line::{LINE_LIMIT, LineBuffer, LineStore};

@@ -1,4 +1,6 @@
 // The same edits and reads on every store there is.
+#![tactic(auto)]
+
 #[cfg(test)]
 mod tests {
     use gap_store::GapStore;

@@ -1,4 +1,6 @@
 // Worked examples of the rules, as one theorem on the definitions that the contracts use.
+#![tactic(auto)]
+
 ghost use Rattle.std.specs.Prelude.{◌≡◌, pos, negsuc};
 ghost use Rattle.trials.specs.Trials.{Trials};
 

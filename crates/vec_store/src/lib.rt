@@ -1,4 +1,6 @@
 // A line store in a vector of records of one size.
+#![tactic(auto)]
+
 mod edit;
 mod record;
 mod store;

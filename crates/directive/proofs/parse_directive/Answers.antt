@@ -8,4 +8,4 @@ returns-in-32 g c =
     let rest = c.args.rest.now in
     let n : 1 ≤ length rest = search rules in
     let e : get_or rest 0 0 ≡ 32 = search rules in
-    simp take_rest at c.parse-argument.ensures ∙ sym (argued g.L.Letter.takes c.in-Some.letter c.in-Number.argument c.args.letter rest c.in-Some.is (sym c.in-Number.ensures) n e)
+    simp take_rest at c.parse_argument.ensures ∙ sym (argued g.L.Letter.takes c.in-Some.letter c.in-Number.argument c.args.letter rest c.in-Some.is (sym c.in-Number.ensures) n e)

@@ -18,4 +18,4 @@ returns-in-46-2 g c =
     let n : 2 ≤ length line = search rules in
     let x : get_or line 0 0 ≡ 46 = search rules in
     let y : get_or line 1 0 ≡ 46 → ⊥ = search rules in
-    simp (take_rest, c.from-byte.ensures) at c.parse-directive.ensures ∙ sym (one_dot g.L.Letter.spelled g.L.Letter.takes line n x y)
+    simp (take_rest, c.from_byte.ensures) at c.parse_directive.ensures ∙ sym (one_dot g.L.Letter.spelled g.L.Letter.takes line n x y)

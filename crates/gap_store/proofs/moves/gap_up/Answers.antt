@@ -16,8 +16,8 @@ found g bytes k size sound place e =
     ∙ ap (λ (r : List ℕ). length (packed (unpacked k r))) (take_rest bytes g.back)
     ∙ ap (λ (r : List Line). length (packed r)) (first_behind (gap_lines g bytes) g bytes sound k place)
 
-pub line-start-size-requires : goal.line-start-size-requires
-line-start-size-requires c =
+pub line_start-size-requires : goal.line_start-size-requires
+line_start-size-requires c =
     let g = c.args.gap in
     let bytes : List ℕ = c.args.memory.now in
     record {
@@ -25,41 +25,41 @@ line-start-size-requires c =
       lines = let P : List ℕ → Type 0 = Packed g.behind in subst P (sym (take_rest bytes g.back)) (aft_packed (gap_lines g bytes) g bytes c.requires.sound);
     }
 
-pub overflow-add-start : goal.overflow-add-start
-overflow-add-start c =
+pub overflow_add-start : goal.overflow_add-start
+overflow_add-start c =
     let g = c.args.gap in
     let bytes : List ℕ = c.args.memory.now in
-    let size : ℕ = c.line-start-size.result in
-    let e = found g bytes (c.args.at - g.before) size c.requires.sound (omega (arith, c.requires.place)) c.line-start-size.ensures in
+    let size : ℕ = c.line_start-size.result in
+    let e = found g bytes (c.args.at - g.before) size c.requires.sound (omega (arith, c.requires.place)) c.line_start-size.ensures in
     let s = size_in (gap_lines g bytes) g bytes c.requires.sound c.args.at size c.requires.low c.requires.place e in
     omega arith
 
-pub copy-within-requires : goal.copy-within-requires
-copy-within-requires c =
+pub copy_within-requires : goal.copy_within-requires
+copy_within-requires c =
     let g = c.args.gap in
     let bytes : List ℕ = c.args.memory.now in
-    let size : ℕ = c.line-start-size.result in
-    let e = found g bytes (c.args.at - g.before) size c.requires.sound (omega (arith, c.requires.place)) c.line-start-size.ensures in
+    let size : ℕ = c.line_start-size.result in
+    let e = found g bytes (c.args.at - g.before) size c.requires.sound (omega (arith, c.requires.place)) c.line_start-size.ensures in
     let s = size_in (gap_lines g bytes) g bytes c.requires.sound c.args.at size c.requires.low c.requires.place e in
     let a = c.requires.sound.apart in
-    record { start-le-end = omega arith; in_bounds = s; dest-in-bounds = omega arith; not-exhausted = tt }
+    record { start_le_end = omega arith; in_bounds = s; dest_in_bounds = omega arith; not_exhausted = tt }
 
-pub overflow-add-result : goal.overflow-add-result
-overflow-add-result c =
+pub overflow_add-result : goal.overflow_add-result
+overflow_add-result c =
     let g = c.args.gap in
     let bytes : List ℕ = c.args.memory.now in
-    let size : ℕ = c.line-start-size.result in
-    let e = found g bytes (c.args.at - g.before) size c.requires.sound (omega (arith, c.requires.place)) c.line-start-size.ensures in
+    let size : ℕ = c.line_start-size.result in
+    let e = found g bytes (c.args.at - g.before) size c.requires.sound (omega (arith, c.requires.place)) c.line_start-size.ensures in
     let s = size_in (gap_lines g bytes) g bytes c.requires.sound c.args.at size c.requires.low c.requires.place e in
     let a = c.requires.sound.apart in
     omega arith
 
-pub overflow-add-result-2 : goal.overflow-add-result-2
-overflow-add-result-2 c =
+pub overflow_add-result-2 : goal.overflow_add-result-2
+overflow_add-result-2 c =
     let g = c.args.gap in
     let bytes : List ℕ = c.args.memory.now in
-    let size : ℕ = c.line-start-size.result in
-    let e = found g bytes (c.args.at - g.before) size c.requires.sound (omega (arith, c.requires.place)) c.line-start-size.ensures in
+    let size : ℕ = c.line_start-size.result in
+    let e = found g bytes (c.args.at - g.before) size c.requires.sound (omega (arith, c.requires.place)) c.line_start-size.ensures in
     let s = size_in (gap_lines g bytes) g bytes c.requires.sound c.args.at size c.requires.low c.requires.place e in
     omega arith
 
@@ -67,10 +67,10 @@ pub returns : goal.returns
 returns c =
     let g = c.args.gap in
     let bytes : List ℕ = c.args.memory.now in
-    let size : ℕ = c.line-start-size.result in
-    let e = found g bytes (c.args.at - g.before) size c.requires.sound (omega (arith, c.requires.place)) c.line-start-size.ensures in
+    let size : ℕ = c.line_start-size.result in
+    let e = found g bytes (c.args.at - g.before) size c.requires.sound (omega (arith, c.requires.place)) c.line_start-size.ensures in
     let z : (g.back + size) - g.back ≡ size = omega arith in
-    let is = c.copy-within.ensures.after ∙ ap (λ (k : ℕ). paste bytes g.front (drop g.back bytes) k) z in
+    let is = c.copy_within.ensures.after ∙ ap (λ (k : ℕ). paste bytes g.front (drop g.back bytes) k) z in
     let new : Gap = record { before = c.args.at; behind = g.behind - (c.args.at - g.before); front = g.front + size; back = g.back + size } in
     let P : List ℕ → Type 0 = Holds (gap_lines g bytes) new in
     record {

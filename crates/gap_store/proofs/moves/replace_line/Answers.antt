@@ -9,16 +9,16 @@ use Rattle.gap_store.specs.GapsLemmas.{length_lines, read_back, used}
 use Rattle.gap_store.proofs.Moved.{put_back}
 use Rattle.gap_store.proofs.moves.replace_line.Goals as goal
 
-pub insert-line-requires : goal.insert-line-requires
-insert-line-requires c =
+pub insert_line-requires : goal.insert_line-requires
+insert_line-requires c =
     let g = c.args.gap in
     let at : ℕ = c.args.at in
     let ls : List Line = gap_lines g c.args.memory.now in
     let l = length_lines g c.args.memory.now in
     let place : at < length ls = omega (arith, c.requires.place) in
-    let r = c.remove-line-gap.result in
-    let bytes : List ℕ = c.remove-line-gap.new.memory in
-    let holds = c.remove-line-gap.ensures in
+    let r = c.remove_line-gap.result in
+    let bytes : List ℕ = c.remove_line-gap.new.memory in
+    let holds = c.remove_line-gap.ensures in
     let u = used (remove ls at) r bytes holds in
     let s = charges_set taken ls at c.args.line.now place in
     let m = charges_removed taken ls at place in
@@ -41,6 +41,6 @@ returns c =
     let ls : List Line = gap_lines g c.args.memory.now in
     let l = length_lines g c.args.memory.now in
     let place : at < length ls = omega (arith, c.requires.place) in
-    let back = read_back (remove ls at) c.remove-line-gap.result c.remove-line-gap.new.memory c.remove-line-gap.ensures in
-    let P : List Line → Type 0 = λ xs. Holds xs c.insert-line.result c.insert-line.new.memory in
-    subst P (ap (λ (xs : List Line). insert xs at line) back ∙ put_back ls at line place) c.insert-line.ensures
+    let back = read_back (remove ls at) c.remove_line-gap.result c.remove_line-gap.new.memory c.remove_line-gap.ensures in
+    let P : List Line → Type 0 = λ xs. Holds xs c.insert_line.result c.insert_line.new.memory in
+    subst P (ap (λ (xs : List Line). insert xs at line) back ∙ put_back ls at line place) c.insert_line.ensures

@@ -4,4 +4,4 @@ use Rattle.gap_store.proofs.moves.write_record.Goals as goal
 
 pub returns : goal.returns
 returns c =
-    record_written c.args.memory.now c.args.start c.args.line.now _ c.copy-from-slice.new.self (omega (arith, c.requires.room)) (omega arith) c.copy-from-slice.ensures.after
+    record_written c.args.memory.now c.args.start c.args.line.now _ c.copy_from_slice.new.self (omega (arith, c.requires.room)) (omega arith) c.copy_from_slice.ensures.after

@@ -3,4 +3,4 @@ use Rattle.gap_store.specs.Records.{packed, unpacked}
 use Rattle.gap_store.proofs.walk.forward.Given as goal
 
 abbrev pub invariant-loop-line : goal.invariant-loop-line
-invariant-loop-line l = l.start ≡ length (packed (unpacked l.-line l.part))
+invariant-loop-line l = l.start ≡ length (packed (unpacked l._line l.part))

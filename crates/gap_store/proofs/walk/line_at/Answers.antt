@@ -7,8 +7,8 @@ use Rattle.gap_store.specs.RecordsLemmas.{length_unpacked}
 use Rattle.gap_store.specs.GapsLemmas.{fore_packed, aft_packed}
 use Rattle.gap_store.proofs.walk.line_at.Goals as goal
 
-pub packed-line-requires : goal.packed-line-requires
-packed-line-requires c =
+pub packed_line-requires : goal.packed_line-requires
+packed_line-requires c =
     let g = c.args.gap in
     let bytes : List ℕ = c.args.memory.now in
     let z : g.front - 0 ≡ g.front = omega arith in
@@ -17,8 +17,8 @@ packed-line-requires c =
       lines = let P : ℕ → Type 0 = λ k. Packed g.before (take k bytes) in subst P (sym z) (fore_packed (gap_lines g bytes) g bytes c.requires.sound);
     }
 
-pub packed-line-requires-else-at-gap : goal.packed-line-requires-else-at-gap
-packed-line-requires-else-at-gap c =
+pub packed_line-requires-else-at-gap : goal.packed_line-requires-else-at-gap
+packed_line-requires-else-at-gap c =
     let g = c.args.gap in
     let bytes : List ℕ = c.args.memory.now in
     record {
@@ -33,7 +33,7 @@ returns-then-at-gap c =
     let z : g.front - 0 ≡ g.front = omega arith in
     let xs : List Line = unpacked g.before (take g.front bytes) in
     let ys : List Line = unpacked g.behind (drop g.back bytes) in
-    c.packed-line.ensures
+    c.packed_line.ensures
     ∙ ap (λ (k : ℕ). get_or (unpacked g.before (take k bytes)) c.args.at []) z
     ∙ sym (get_or_append_left xs ys [] c.args.at (omega (arith, length_unpacked g.before (take g.front bytes))))
 
@@ -43,6 +43,6 @@ returns-else-at-gap c =
     let bytes : List ℕ = c.args.memory.now in
     let xs : List Line = unpacked g.before (take g.front bytes) in
     let ys : List Line = unpacked g.behind (drop g.back bytes) in
-    c.packed-line-else-at-gap.ensures
+    c.packed_line-else-at-gap.ensures
     ∙ ap (λ (r : List ℕ). get_or (unpacked g.behind r) (c.args.at - g.before) []) (take_rest bytes g.back)
     ∙ sym (get_or-append_right xs ys g.before c.args.at [] (length_unpacked g.before (take g.front bytes)) (omega arith))

@@ -5,8 +5,8 @@ use Rattle.numerals.proofs.RightAligned.{count_one, count_step, front, digit_mor
 use Rattle.numerals.proofs.write.put_digits.Goals as goal
 
 -- in each: a digit is left, so there is room for it
-pub overflow-sub-i : goal.overflow-sub-i
-overflow-sub-i c = omega (arith, decimal_nonempty c.loop-rest.rest (omega arith))
+pub overflow_sub-i : goal.overflow_sub-i
+overflow_sub-i c = omega (arith, decimal_nonempty c.loop-rest.rest (omega arith))
 
 pub bounds-row-i : goal.bounds-row-i
 bounds-row-i c = omega (arith, decimal_nonempty c.loop-rest.rest (omega arith))

@@ -13,10 +13,10 @@ returns c =
     let room : end ≤ length base = omega arith in
     -- the cast of v away
     let z : to_z w32 (of_z w32 v) ≡ v = to_z-of_z w32 v c.ranges.v in
-    let size : length (signed_decimal v) ≤ c.args.width = omega (arith, simp z at c.number-size.ensures) in
-    let n : c.unsigned-abs.result ≡ nat_abs v = simp z at c.unsigned-abs.ensures.value in
-    let from = simp n at c.put-digits-from.ensures.from in
-    let row = simp n at c.put-digits-from.ensures.row in
+    let size : length (signed_decimal v) ≤ c.args.width = omega (arith, simp z at c.number_size.ensures) in
+    let n : c.unsigned_abs.result ≡ nat_abs v = simp z at c.unsigned_abs.ensures.value in
+    let from = simp n at c.put_digits-from.ensures.from in
+    let row = simp n at c.put_digits-from.ensures.row in
     let stands : Stands base c.if-v-lt0.row c.if-v-lt0.from end v = elim c.if-v-lt0.branch [
       | then-v-lt0 w ↦
           let neg : v <ℤ pos 0 = omega (arith, ints, w.if-v-lt0.true) in
@@ -28,12 +28,12 @@ returns c =
     ] in
     record {
       verdict = simp (le-ltb (length base) end room, le-ltb c.args.width (length (signed_decimal v)) size);
-      row = padded base c.if-v-lt0.row _ c.args.at c.args.width c.if-v-lt0.from v (omega arith) room stands c.put-spaces.ensures;
+      row = padded base c.if-v-lt0.row _ c.args.at c.args.width c.if-v-lt0.from v (omega arith) room stands c.put_spaces.ensures;
       law = law;
     }
 
 pub returns-then-width-row : goal.returns-then-width-row
 returns-then-width-row c = record { verdict = search rules; row = refl; law = law }
 
-pub returns-then-number-size-width : goal.returns-then-number-size-width
-returns-then-number-size-width c = record { verdict = search rules; row = refl; law = law }
+pub returns-then-number_size-width : goal.returns-then-number_size-width
+returns-then-number_size-width c = record { verdict = search rules; row = refl; law = law }

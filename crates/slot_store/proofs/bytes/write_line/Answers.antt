@@ -5,4 +5,4 @@ use Rattle.slot_store.proofs.bytes.write_line.Goals as goal
 
 pub returns : goal.returns
 returns c =
-    put_mid_record c.args.memory.now (slot_size * c.args.at) c.args.line.now _ c.copy-from-slice.new.self (omega (arith, c.requires.whole)) (omega arith) c.copy-from-slice.ensures.after
+    put_mid_record c.args.memory.now (slot_size * c.args.at) c.args.line.now _ c.copy_from_slice.new.self (omega (arith, c.requires.whole)) (omega arith) c.copy_from_slice.ensures.after

@@ -21,30 +21,30 @@ returns-then-at-lines c =
       same = refl;
     }
 
-pub returns-in-err-check-line : goal.returns-in-err-check-line
-returns-in-err-check-line c =
+pub returns-in_err-check_line : goal.returns-in_err-check_line
+returns-in_err-check_line c =
     let s = c.args.self.now in
     let n = length_lines s.gap (vec_items s.memory) in
-    let p = err_from_is_err_and c.from-residual.result c.from-residual.ensures.1 in
+    let p = err_from_is_err_and c.from_residual.result c.from_residual.ensures.1 in
     rw (p.1, p.2)
     record {
-      first = insert_no_line (vec_len s.memory) taken (gap_lines s.gap (vec_items s.memory)) c.args.at c.args.line.now _ (omega arith) c.in-err-check-line.ensures;
+      first = insert_no_line (vec_len s.memory) taken (gap_lines s.gap (vec_items s.memory)) c.args.at c.args.line.now _ (omega arith) c.in_err-check_line.ensures;
       same = refl;
     }
 
-pub returns-then-lines-ge-STORE-LIMIT : goal.returns-then-lines-ge-STORE-LIMIT
-returns-then-lines-ge-STORE-LIMIT c =
+pub returns-then-lines-ge-STORE_LIMIT : goal.returns-then-lines-ge-STORE_LIMIT
+returns-then-lines-ge-STORE_LIMIT c =
     let s = c.args.self.now in
     let line : List ℕ = c.args.line.now in
     let ls : List Line = gap_lines s.gap (vec_items s.memory) in
     let n = length_lines s.gap (vec_items s.memory) in
     let all = charged s.memory s.gap s.apart s.within s.fore s.aft in
     let more = charges_inserted taken ls c.args.at line in
-    let none = c.in-ok-check-line.ensures in
+    let none = c.in_ok-check_line.ensures in
     let place : c.args.at ≤ length ls = omega arith in
     record {
       first =
-          elim c.then-lines-ge-STORE-LIMIT.branch [
+          elim c.then-lines-ge-STORE_LIMIT.branch [
             | then-lines-ge-STORE-LIMIT-via-then-lines-ge-STORE-LIMIT w ↦
                 insert_many (vec_len s.memory) taken ls c.args.at _ _ line (omega arith) c.len.ensures place none (omega arith)
             | then-lines-ge-STORE-LIMIT-via-else-lines-ge-STORE-LIMIT+then-line-room w ↦
@@ -53,51 +53,51 @@ returns-then-lines-ge-STORE-LIMIT c =
       same = refl;
     }
 
-pub insert-line-self-requires : goal.insert-line-self-requires
-insert-line-self-requires c =
+pub insert_line-self-requires : goal.insert_line-self-requires
+insert_line-self-requires c =
     let s = c.args.self.now in
     let line : List ℕ = c.args.line.now in
     let a = s.apart in
     record {
       place = omega arith;
-      sound = sound_lent s.memory s.gap s.apart s.within s.fore s.aft c.as-mut-slice.result.now c.as-mut-slice.ensures.value;
-      short = line_short line (line_from_none line c.in-ok-check-line.ensures);
+      sound = sound_lent s.memory s.gap s.apart s.within s.fore s.aft c.as_mut_slice.result.now c.as_mut_slice.ensures.value;
+      short = line_short line (line_from_none line c.in_ok-check_line.ensures);
       room = omega arith;
     }
 
-pub invariant-of-self : goal.invariant-of-self
-invariant-of-self c =
+pub invariant_of-self : goal.invariant_of-self
+invariant_of-self c =
     let s = c.args.self.now in
     let line : List ℕ = c.args.line.now in
-    let r = c.insert-line-self.result in
-    let ws : List ℕ = c.insert-line-self.new.memory in
+    let r = c.insert_line-self.result in
+    let ws : List ℕ = c.insert_line-self.new.memory in
     let ls : List Line = gap_lines s.gap (vec_items s.memory) in
     let new : List Line = insert ls c.args.at line in
-    let long : length ws ≡ vec_len s.memory = omega (arith, c.insert-line-self.auto.memory, c.as-mut-slice.ensures.len) in
+    let long : length ws ≡ vec_len s.memory = omega (arith, c.insert_line-self.auto.memory, c.as_mut_slice.ensures.len) in
     let P : List ℕ → Type 0 = λ xs. Holds (insert (gap_lines s.gap xs) c.args.at line) r ws in
-    let h : Holds new r ws = subst P c.as-mut-slice.ensures.value c.insert-line-self.ensures in
+    let h : Holds new r ws = subst P c.as_mut_slice.ensures.value c.insert_line-self.ensures in
     let n = length_lines s.gap (vec_items s.memory) in
     let m = length-insert ls c.args.at line (omega arith) in
-    let good = lines_inserted ls c.args.at line (line_from_none line c.in-ok-check-line.ensures) (held_all s.gap (vec_items s.memory) s.held) in
+    let good = lines_inserted ls c.args.at line (line_from_none line c.in_ok-check_line.ensures) (held_all s.gap (vec_items s.memory) s.held) in
     now_kept s.memory r ws long new h s.small (omega arith) good
 
 pub returns : goal.returns
 returns c =
     let s = c.args.self.now in
     let line : List ℕ = c.args.line.now in
-    let r = c.insert-line-self.result in
-    let ws : List ℕ = c.insert-line-self.new.memory in
+    let r = c.insert_line-self.result in
+    let ws : List ℕ = c.insert_line-self.new.memory in
     let ls : List Line = gap_lines s.gap (vec_items s.memory) in
     let new : List Line = insert ls c.args.at line in
-    let long : length ws ≡ vec_len s.memory = omega (arith, c.insert-line-self.auto.memory, c.as-mut-slice.ensures.len) in
+    let long : length ws ≡ vec_len s.memory = omega (arith, c.insert_line-self.auto.memory, c.as_mut_slice.ensures.len) in
     let P : List ℕ → Type 0 = λ xs. Holds (insert (gap_lines s.gap xs) c.args.at line) r ws in
-    let h : Holds new r ws = subst P c.as-mut-slice.ensures.value c.insert-line-self.ensures in
+    let h : Holds new r ws = subst P c.as_mut_slice.ensures.value c.insert_line-self.ensures in
     let n = length_lines s.gap (vec_items s.memory) in
     let all = charged s.memory s.gap s.apart s.within s.fore s.aft in
     let more = charges_inserted taken ls c.args.at line in
     let a = s.apart in
     record {
-      allowed = insert_allowed (vec_len s.memory) taken ls c.args.at line (omega arith) c.in-ok-check-line.ensures (omega arith) (omega arith);
+      allowed = insert_allowed (vec_len s.memory) taken ls c.args.at line (omega arith) c.in_ok-check_line.ensures (omega arith) (omega arith);
       list = now_lines s.memory r ws long new h;
       room = refl;
       rate = refl;

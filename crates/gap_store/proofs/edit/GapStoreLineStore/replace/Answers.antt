@@ -11,35 +11,35 @@ use Rattle.gap_store.specs.GapsLemmas.{length_lines}
 use Rattle.gap_store.specs.Stored.{held_all, sound_lent, charged, now_lines, now_kept}
 use Rattle.gap_store.proofs.edit.GapStoreLineStore.replace.Goals as goal
 
-pub returns-in-err-check-at : goal.returns-in-err-check-at
-returns-in-err-check-at c =
+pub returns-in_err-check_at : goal.returns-in_err-check_at
+returns-in_err-check_at c =
     let s = c.args.self.now in
     let n = length_lines s.gap (vec_items s.memory) in
-    let p = err_from_is_err_and c.from-residual.result c.from-residual.ensures.1 in
-    let h = c.in-err-check-at.ensures in
+    let p = err_from_is_err_and c.from_residual.result c.from_residual.ensures.1 in
+    let h = c.in_err-check_at.ensures in
     rw (p.1, p.2, h.1)
     record {
       first = replace_nowhere (vec_len s.memory) taken (gap_lines s.gap (vec_items s.memory)) c.args.at _ c.args.line.now (sym n) h.0;
       same = refl;
     }
 
-pub returns-in-err-check-line : goal.returns-in-err-check-line
-returns-in-err-check-line c =
+pub returns-in_err-check_line : goal.returns-in_err-check_line
+returns-in_err-check_line c =
     let s = c.args.self.now in
     let n = length_lines s.gap (vec_items s.memory) in
-    let p = err_from_is_err_and c.from-residual-in-err-check-line.result c.from-residual-in-err-check-line.ensures.1 in
+    let p = err_from_is_err_and c.from_residual-in_err-check_line.result c.from_residual-in_err-check_line.ensures.1 in
     rw (p.1, p.2)
     record {
-      first = replace_no_line (vec_len s.memory) taken (gap_lines s.gap (vec_items s.memory)) c.args.at c.args.line.now _ (omega (arith, c.in-ok-check-at.ensures)) c.in-err-check-line.ensures;
+      first = replace_no_line (vec_len s.memory) taken (gap_lines s.gap (vec_items s.memory)) c.args.at c.args.line.now _ (omega (arith, c.in_ok-check_at.ensures)) c.in_err-check_line.ensures;
       same = refl;
     }
 
-pub line-at-old-requires : goal.line-at-old-requires
-line-at-old-requires c =
+pub line_at-old-requires : goal.line_at-old-requires
+line_at-old-requires c =
     let s = c.args.self.now in
     record {
-      place = c.in-ok-check-at.ensures;
-      sound = sound_lent s.memory s.gap s.apart s.within s.fore s.aft c.as-slice.result.now c.as-slice.ensures.value;
+      place = c.in_ok-check_at.ensures;
+      sound = sound_lent s.memory s.gap s.apart s.within s.fore s.aft c.as_slice.result.now c.as_slice.ensures.value;
     }
 
 pub returns-then-line-old : goal.returns-then-line-old
@@ -48,81 +48,81 @@ returns-then-line-old c =
     let line : List ℕ = c.args.line.now in
     let ls : List Line = gap_lines s.gap (vec_items s.memory) in
     let n = length_lines s.gap (vec_items s.memory) in
-    let place : c.args.at < length ls = omega (arith, c.in-ok-check-at.ensures) in
-    let is : c.line-at-old.result.now ≡ get_or ls c.args.at [] =
-    c.line-at-old.ensures ∙ ap (λ (xs : List ℕ). get_or (gap_lines s.gap xs) c.args.at []) c.as-slice.ensures.value
+    let place : c.args.at < length ls = omega (arith, c.in_ok-check_at.ensures) in
+    let is : c.line_at-old.result.now ≡ get_or ls c.args.at [] =
+    c.line_at-old.ensures ∙ ap (λ (xs : List ℕ). get_or (gap_lines s.gap xs) c.args.at []) c.as_slice.ensures.value
     in
     let old = ap length is in
     let all = charged s.memory s.gap s.apart s.within s.fore s.aft in
     let more = charges_set taken ls c.args.at line place in
     record {
-      first = replace_full (vec_len s.memory) taken ls c.args.at _ _ line (omega arith) c.len.ensures place c.in-ok-check-line.ensures (omega arith);
+      first = replace_full (vec_len s.memory) taken ls c.args.at _ _ line (omega arith) c.len.ensures place c.in_ok-check_line.ensures (omega arith);
       same = refl;
     }
 
-pub replace-line-self-requires : goal.replace-line-self-requires
-replace-line-self-requires c =
+pub replace_line-self-requires : goal.replace_line-self-requires
+replace_line-self-requires c =
     let s = c.args.self.now in
     let line : List ℕ = c.args.line.now in
-    let lent : List ℕ = c.as-mut-slice.result.now in
+    let lent : List ℕ = c.as_mut_slice.result.now in
     let ls : List Line = gap_lines s.gap (vec_items s.memory) in
     let n = length_lines s.gap (vec_items s.memory) in
-    let place : c.args.at < length ls = omega (arith, c.in-ok-check-at.ensures) in
-    let is : c.line-at-old.result.now ≡ get_or ls c.args.at [] =
-    c.line-at-old.ensures ∙ ap (λ (xs : List ℕ). get_or (gap_lines s.gap xs) c.args.at []) c.as-slice.ensures.value
+    let place : c.args.at < length ls = omega (arith, c.in_ok-check_at.ensures) in
+    let is : c.line_at-old.result.now ≡ get_or ls c.args.at [] =
+    c.line_at-old.ensures ∙ ap (λ (xs : List ℕ). get_or (gap_lines s.gap xs) c.args.at []) c.as_slice.ensures.value
     in
     let old = ap length is in
     let all = charged s.memory s.gap s.apart s.within s.fore s.aft in
     let more = charges_set taken ls c.args.at line place in
     let same : charges taken (set (gap_lines s.gap lent) c.args.at line) ≡ charges taken (set ls c.args.at line) =
-    ap (λ (xs : List ℕ). charges taken (set (gap_lines s.gap xs) c.args.at line)) c.as-mut-slice.ensures.value
+    ap (λ (xs : List ℕ). charges taken (set (gap_lines s.gap xs) c.args.at line)) c.as_mut_slice.ensures.value
     in
     record {
-      place = c.in-ok-check-at.ensures;
-      sound = sound_lent s.memory s.gap s.apart s.within s.fore s.aft lent c.as-mut-slice.ensures.value;
-      short = line_short line (line_from_none line c.in-ok-check-line.ensures);
-      room = omega (arith, c.as-mut-slice.ensures.len);
+      place = c.in_ok-check_at.ensures;
+      sound = sound_lent s.memory s.gap s.apart s.within s.fore s.aft lent c.as_mut_slice.ensures.value;
+      short = line_short line (line_from_none line c.in_ok-check_line.ensures);
+      room = omega (arith, c.as_mut_slice.ensures.len);
     }
 
-pub invariant-of-self : goal.invariant-of-self
-invariant-of-self c =
+pub invariant_of-self : goal.invariant_of-self
+invariant_of-self c =
     let s = c.args.self.now in
     let line : List ℕ = c.args.line.now in
-    let r = c.replace-line-self.result in
-    let ws : List ℕ = c.replace-line-self.new.memory in
+    let r = c.replace_line-self.result in
+    let ws : List ℕ = c.replace_line-self.new.memory in
     let ls : List Line = gap_lines s.gap (vec_items s.memory) in
     let new : List Line = set ls c.args.at line in
-    let long : length ws ≡ vec_len s.memory = omega (arith, c.replace-line-self.auto.memory, c.as-mut-slice.ensures.len) in
+    let long : length ws ≡ vec_len s.memory = omega (arith, c.replace_line-self.auto.memory, c.as_mut_slice.ensures.len) in
     let P : List ℕ → Type 0 = λ xs. Holds (set (gap_lines s.gap xs) c.args.at line) r ws in
-    let h : Holds new r ws = subst P c.as-mut-slice.ensures.value c.replace-line-self.ensures in
+    let h : Holds new r ws = subst P c.as_mut_slice.ensures.value c.replace_line-self.ensures in
     let n = length_lines s.gap (vec_items s.memory) in
     let m = length-set ls c.args.at line in
     let f = s.few in
-    let good = lines_set ls c.args.at line (line_from_none line c.in-ok-check-line.ensures) (held_all s.gap (vec_items s.memory) s.held) in
+    let good = lines_set ls c.args.at line (line_from_none line c.in_ok-check_line.ensures) (held_all s.gap (vec_items s.memory) s.held) in
     now_kept s.memory r ws long new h s.small (omega arith) good
 
 pub returns : goal.returns
 returns c =
     let s = c.args.self.now in
     let line : List ℕ = c.args.line.now in
-    let r = c.replace-line-self.result in
-    let ws : List ℕ = c.replace-line-self.new.memory in
+    let r = c.replace_line-self.result in
+    let ws : List ℕ = c.replace_line-self.new.memory in
     let ls : List Line = gap_lines s.gap (vec_items s.memory) in
     let new : List Line = set ls c.args.at line in
-    let long : length ws ≡ vec_len s.memory = omega (arith, c.replace-line-self.auto.memory, c.as-mut-slice.ensures.len) in
+    let long : length ws ≡ vec_len s.memory = omega (arith, c.replace_line-self.auto.memory, c.as_mut_slice.ensures.len) in
     let P : List ℕ → Type 0 = λ xs. Holds (set (gap_lines s.gap xs) c.args.at line) r ws in
-    let h : Holds new r ws = subst P c.as-mut-slice.ensures.value c.replace-line-self.ensures in
+    let h : Holds new r ws = subst P c.as_mut_slice.ensures.value c.replace_line-self.ensures in
     let n = length_lines s.gap (vec_items s.memory) in
-    let place : c.args.at < length ls = omega (arith, c.in-ok-check-at.ensures) in
-    let is : c.line-at-old.result.now ≡ get_or ls c.args.at [] =
-    c.line-at-old.ensures ∙ ap (λ (xs : List ℕ). get_or (gap_lines s.gap xs) c.args.at []) c.as-slice.ensures.value
+    let place : c.args.at < length ls = omega (arith, c.in_ok-check_at.ensures) in
+    let is : c.line_at-old.result.now ≡ get_or ls c.args.at [] =
+    c.line_at-old.ensures ∙ ap (λ (xs : List ℕ). get_or (gap_lines s.gap xs) c.args.at []) c.as_slice.ensures.value
     in
     let old = ap length is in
     let f = s.few in
     let all = charged s.memory s.gap s.apart s.within s.fore s.aft in
     let more = charges_set taken ls c.args.at line place in
     record {
-      allowed = replace_allowed (vec_len s.memory) taken ls c.args.at line place c.in-ok-check-line.ensures (omega arith) (omega arith);
+      allowed = replace_allowed (vec_len s.memory) taken ls c.args.at line place c.in_ok-check_line.ensures (omega arith) (omega arith);
       list = now_lines s.memory r ws long new h;
       room = refl;
       rate = refl;

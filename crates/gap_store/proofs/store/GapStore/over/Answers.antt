@@ -2,8 +2,8 @@ use Rattle.std.proofs.Common.{◌≤◌, length, vec_items, sym, refl, ap, arith
 use Rattle.std.proofs.lemmas.List.{drop_all, length-take}
 use Rattle.gap_store.proofs.store.GapStore.over.Goals as goal
 
-pub invariant-of-result : goal.invariant-of-result
-invariant-of-result c =
+pub invariant_of-result : goal.invariant_of-result
+invariant_of-result c =
     let v = c.truncate.new.self in
     let long = v.ok.0 in
     let l = ap length c.truncate.ensures.items in

@@ -35,7 +35,7 @@ returns-then-self-slots c =
     let n = length_slots s.count (vec_items s.memory) in
     let all = charged s.count (vec_items s.memory) in
     record {
-      first = insert_full (slots_in (vec_len s.memory)) (λ _. 1) ls c.args.at s.count _ line (sym all) c.slots-then-self-slots.ensures (omega arith) c.in-ok-check-line.ensures (omega (arith, charges_inserted (λ _. 1) ls c.args.at line));
+      first = insert_full (slots_in (vec_len s.memory)) (λ _. 1) ls c.args.at s.count _ line (sym all) c.slots-then-self-slots.ensures (omega arith) c.in_ok-check_line.ensures (omega (arith, charges_inserted (λ _. 1) ls c.args.at line));
       same = refl;
     }
 
@@ -55,13 +55,13 @@ returns c =
     let ls = slots_of s.count (vec_items s.memory) in
     let n = length_slots s.count (vec_items s.memory) in
     let all = charged s.count (vec_items s.memory) in
-    let none = c.in-ok-check-line.ensures in
+    let none = c.in_ok-check_line.ensures in
     let good = line_from_none line none in
     let room : s.count < slots_in (vec_len s.memory) = omega arith in
-    let e = c.insert-line.ensures ∙ ap (λ (xs : List ℕ). with_line (with_slots xs c.args.at s.count (c.args.at + 1)) c.args.at line) c.as-mut-slice.ensures.value in
+    let e = c.insert_line.ensures ∙ ap (λ (xs : List ℕ). with_line (with_slots xs c.args.at s.count (c.args.at + 1)) c.args.at line) c.as_mut_slice.ensures.value in
     record {
       allowed = insert_allowed (slots_in (vec_len s.memory)) (λ _. 1) ls c.args.at line (omega arith) none (omega arith) (omega (arith, charges_inserted (λ _. 1) ls c.args.at line));
-      list = now_inserted s.memory s.count s.within s.held c.insert-line.new.memory c.args.at line (omega arith) room good (line_short line good) e;
+      list = now_inserted s.memory s.count s.within s.held c.insert_line.new.memory c.args.at line (omega arith) room good (line_short line good) e;
       room = refl;
       rate = refl;
     }

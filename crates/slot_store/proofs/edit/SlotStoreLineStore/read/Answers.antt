@@ -16,13 +16,13 @@ returns-in-err-check-at c =
 pub returns : goal.returns
 returns c =
     let s = c.args.self.now in
-    let bytes : List ℕ = c.line-in-bytes.result.now in
+    let bytes : List ℕ = c.line_in-bytes.result.now in
     let n = length_slots s.count (vec_items s.memory) in
     let none : length bytes - 0 ≡ length bytes = omega arith in
     let is : bytes ≡ get_or (slots_of s.count (vec_items s.memory)) c.args.at [] =
-    c.line-in-bytes.ensures
-    ∙ ap (λ (xs : List ℕ). slot_line (slot_at xs c.args.at)) c.as-slice.ensures.value
-    ∙ sym (get_or_slots s.count (vec_items s.memory) c.args.at c.in-ok-check-at.ensures)
+    c.line_in-bytes.ensures
+    ∙ ap (λ (xs : List ℕ). slot_line (slot_at xs c.args.at)) c.as_slice.ensures.value
+    ∙ sym (get_or_slots s.count (vec_items s.memory) c.args.at c.in_ok-check_at.ensures)
     in (
       omega arith,
       ap length is,

@@ -31,10 +31,10 @@ returns c =
     let n = length_slots s.count (vec_items s.memory) in
     let all = charged s.count (vec_items s.memory) in
     let w = s.within in
-    let e = c.move-slots.ensures ∙ ap (λ (xs : List ℕ). with_slots xs (c.args.at + 1) s.count c.args.at) c.as-mut-slice.ensures.value in
+    let e = c.move_slots.ensures ∙ ap (λ (xs : List ℕ). with_slots xs (c.args.at + 1) s.count c.args.at) c.as_mut_slice.ensures.value in
     record {
       allowed = remove_allowed (slots_in (vec_len s.memory)) (λ _. 1) (slots_of s.count (vec_items s.memory)) c.args.at (omega arith) (omega arith) (omega arith);
-      list = now_removed s.memory s.count s.within s.held c.move-slots.new.memory c.args.at (omega arith) e;
+      list = now_removed s.memory s.count s.within s.held c.move_slots.new.memory c.args.at (omega arith) e;
       room = refl;
       rate = refl;
     }

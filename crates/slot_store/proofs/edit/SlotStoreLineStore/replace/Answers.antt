@@ -46,12 +46,12 @@ returns c =
     let n = length_slots s.count (vec_items s.memory) in
     let all = charged s.count (vec_items s.memory) in
     let w = s.within in
-    let none = c.in-ok-check-line.ensures in
+    let none = c.in_ok-check_line.ensures in
     let good = line_from_none line none in
-    let e = c.write-line.ensures ∙ ap (λ (xs : List ℕ). with_line xs c.args.at line) c.as-mut-slice.ensures.value in
+    let e = c.write_line.ensures ∙ ap (λ (xs : List ℕ). with_line xs c.args.at line) c.as_mut_slice.ensures.value in
     record {
       allowed = replace_allowed (slots_in (vec_len s.memory)) (λ _. 1) ls c.args.at line (omega arith) none (omega arith) (omega (arith, charges_set (λ _. 1) ls c.args.at line (omega arith)));
-      list = now_replaced s.memory s.count s.within s.held c.write-line.new.memory c.args.at line (omega arith) good (line_short line good) e;
+      list = now_replaced s.memory s.count s.within s.held c.write_line.new.memory c.args.at line (omega arith) good (line_short line good) e;
       room = refl;
       rate = refl;
     }

@@ -38,12 +38,12 @@ returns-then-count-self c =
     let all = charged rs in
     let more = charges_inserted (λ _. 1) (record_lines rs) c.args.at c.args.line.now in
     record {
-      first = insert_full s.room (λ _. 1) (record_lines rs) c.args.at _ _ c.args.line.now (omega arith) refl (omega arith) c.in-ok-check-line.ensures (omega arith);
+      first = insert_full s.room (λ _. 1) (record_lines rs) c.args.at _ _ c.args.line.now (omega arith) refl (omega arith) c.in_ok-check_line.ensures (omega arith);
       same = refl;
     }
 
 pub of-requires : goal.of-requires
-of-requires c = line_from_none c.args.line.now c.in-ok-check-line.ensures
+of-requires c = line_from_none c.args.line.now c.in_ok-check_line.ensures
 
 pub returns : goal.returns
 returns c =
@@ -57,7 +57,7 @@ returns c =
     let more = charges_inserted (λ _. 1) (record_lines rs) c.args.at line in
     let made : is_ok c.insert.result ≡ true = ap is_ok c.unwrap.ensures in
     record {
-      allowed = insert_allowed s.room (λ _. 1) (record_lines rs) c.args.at line (omega arith) c.in-ok-check-line.ensures (omega arith) (omega arith);
+      allowed = insert_allowed s.room (λ _. 1) (record_lines rs) c.args.at line (omega arith) c.in_ok-check_line.ensures (omega arith) (omega arith);
       list =
           ap record_lines (c.insert.ensures.items ∙ ap (λ b. cond b (insert rs c.args.at c.of.result) rs) made)
           ∙ lines_inserted rs c.args.at c.of.result line c.of.ensures;

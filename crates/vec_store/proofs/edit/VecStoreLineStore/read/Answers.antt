@@ -22,7 +22,7 @@ returns c =
     let r = c.index-record.result.now in
     let l = s.records.ok.0 in
     let n = length_lines rs in
-    let h = c.in-ok-check-at.ensures in
+    let h = c.in_ok-check_at.ensures in
     let is : record_line r ≡ get_or (record_lines rs) c.args.at [] =
     ap record_line c.index-record.ensures ∙ sym (get_or-map record_line rs c.args.at r [] (omega arith))
     in
@@ -32,6 +32,6 @@ returns c =
     let full : r.size ≡ length (record_line r) = omega arith in (
       omega arith,
       full ∙ ap length is,
-      ap (λ (k : ℕ). c.copy-from-slice.new.self ++ drop k c.args.line.now) none
-          ∙ ap (λ (xs : List ℕ). xs ++ drop r.size c.args.line.now) (c.copy-from-slice.ensures.after ∙ ap (λ (k : ℕ). take k r.bytes) none ∙ is),
+      ap (λ (k : ℕ). c.copy_from_slice.new.self ++ drop k c.args.line.now) none
+          ∙ ap (λ (xs : List ℕ). xs ++ drop r.size c.args.line.now) (c.copy_from_slice.ensures.after ∙ ap (λ (k : ℕ). take k r.bytes) none ∙ is),
     )

@@ -26,7 +26,7 @@ returns c =
     let all = charged rs in
     let f = s.few in
     let w = s.within in
-    let h = c.in-ok-check-at.ensures in
+    let h = c.in_ok-check_at.ensures in
     record {
       allowed = remove_allowed s.room (λ _. 1) (record_lines rs) c.args.at (omega arith) (omega arith) (omega arith);
       list = ap record_lines c.remove.ensures.items ∙ lines_removed rs c.args.at;

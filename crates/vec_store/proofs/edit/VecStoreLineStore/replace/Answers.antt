@@ -33,7 +33,7 @@ returns-in-err-check-line c =
     }
 
 pub of-requires : goal.of-requires
-of-requires c = line_from_none c.args.line.now c.in-ok-check-line.ensures
+of-requires c = line_from_none c.args.line.now c.in_ok-check_line.ensures
 
 pub returns : goal.returns
 returns c =
@@ -45,10 +45,10 @@ returns c =
     let all = charged rs in
     let f = s.few in
     let w = s.within in
-    let h = c.in-ok-check-at.ensures in
+    let h = c.in_ok-check_at.ensures in
     let more = charges_set (λ _. 1) (record_lines rs) c.args.at line (omega arith) in
     record {
-      allowed = replace_allowed s.room (λ _. 1) (record_lines rs) c.args.at line (omega arith) c.in-ok-check-line.ensures (omega arith) (omega arith);
+      allowed = replace_allowed s.room (λ _. 1) (record_lines rs) c.args.at line (omega arith) c.in_ok-check_line.ensures (omega arith) (omega arith);
       list = lines_replaced rs c.args.at c.of.result line c.of.ensures;
       room = refl;
       rate = refl;

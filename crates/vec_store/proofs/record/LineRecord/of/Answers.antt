@@ -17,4 +17,4 @@ invariant-of-result c =
     (line_short line c.requires, (held c.copy-from-slice.new.self line _ c.copy-from-slice.ensures.after c.requires, tt))
 
 pub returns : goal.returns
-returns c = front c.copy-from-slice.new.self c.args.line.now _ c.copy-from-slice.ensures.after
+returns c = front c.copy_from_slice.new.self c.args.line.now _ c.copy_from_slice.ensures.after
