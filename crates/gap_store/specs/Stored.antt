@@ -6,7 +6,7 @@ use Rattle.std.specs.List.{AllByRecursion as All}
 use Rattle.std.proofs.lemmas.List.{with_items_is}
 use Rattle.std.proofs.ByRecursion.{All-get_or, All-from_get_or}
 use Rattle.line.specs.Lines.{Line, is_line}
-use Rattle.line.specs.Stores.{charges, store_limit}
+use Rattle.line.specs.Stores.{charges, store_limit, Kept}
 use Rattle.gap_store.specs.Records.{Packed, taken}
 use Rattle.gap_store.specs.Gaps.{gap_limit, gap_lines, Held, Holds, Sound}
 use Rattle.gap_store.specs.declared.gap.Gap.{Gap}
@@ -28,6 +28,17 @@ module _ {Z : Type 0} (v : Vec ℕ Z) (g : Gap) (apart : g.front ≤ g.back) (wi
   pub charged : charges taken (gap_lines g (vec_items v)) + (g.back - g.front) ≡ vec_len v
   charged = let u = used (gap_lines g (vec_items v)) g (vec_items v) sound in omega (arith, v.ok.0)
 
+  -- what every store keeps
+  pub kept_by : g.before + g.behind ≤ store_limit → Held g (vec_items v) → Kept (gap_lines g (vec_items v)) (vec_len v) taken
+  kept_by few held =
+      let n = length_lines g (vec_items v) in
+      let all = charged in
+      record {
+        few = omega arith;
+        each = held_all g (vec_items v) held;
+        within = omega arith;
+      }
+
 -- the memory was written, and holds other lines around another gap
 module _ {Z : Type 0} (v : Vec ℕ Z) (r : Gap) (ws : List ℕ) (long : length ws ≡ vec_len v) (new : List Line) (h : Holds new r ws) where
   written : vec_items (with_items v ws) ≡ ws
@@ -40,29 +51,18 @@ module _ {Z : Type 0} (v : Vec ℕ Z) (r : Gap) (ws : List ℕ) (long : length w
   now_lines = read_back new r (vec_items (with_items v ws)) now_holds
 
   -- what the store keeps
-  pub now_kept : vec_len v ≤ gap_limit → length new ≤ store_limit → All (λ (l : Line). is_line l ≡ true) new → (r.front ≤ r.back) × ((r.back ≤ vec_len v) × ((vec_len v ≤ gap_limit) × ((r.before + r.behind ≤ store_limit) × (Packed r.before (take r.front (vec_items (with_items v ws))) × (Packed r.behind (drop r.back (vec_items (with_items v ws))) × (Held r (vec_items (with_items v ws)) × Unit {0}))))))
+  pub now_kept : vec_len v ≤ gap_limit → length new ≤ store_limit → All (λ (l : Line). is_line l ≡ true) new
+      → (r.front ≤ r.back) × (r.back ≤ vec_len v) × (vec_len v ≤ gap_limit) × (r.before + r.behind ≤ store_limit)
+      × Packed r.before (take r.front (vec_items (with_items v ws))) × Packed r.behind (drop r.back (vec_items (with_items v ws))) × Held r (vec_items (with_items v ws))
   now_kept small few all =
       let a = h.apart in
       let w = h.within in
       let n = h.counted in (
         a,
-        (
-          omega (arith, long),
-          (
-            small,
-            (
-              omega arith,
-              (
-                fore_packed new r (vec_items (with_items v ws)) now_holds,
-                (
-                  aft_packed new r (vec_items (with_items v ws)) now_holds,
-                  (
-                    (λ i k. rw now_lines (All-get_or (λ (l : Line). is_line l ≡ true) new i [] (omega arith) all)),
-                    tt,
-                  ),
-                ),
-              ),
-            ),
-          ),
-        ),
+        omega (arith, long),
+        small,
+        omega arith,
+        fore_packed new r (vec_items (with_items v ws)) now_holds,
+        aft_packed new r (vec_items (with_items v ws)) now_holds,
+        (λ i k. rw now_lines (All-get_or (λ (l : Line). is_line l ≡ true) new i [] (omega arith) all)),
       )

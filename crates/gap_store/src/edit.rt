@@ -3,9 +3,7 @@ ghost use Rattle.std.specs.Prelude.{◌≡◌, ◌+◌, ◌<◌, ◌≤◌, vec_
 ghost use Rattle.line.specs.declared.fault.StoreFault.TheVariants.{NoLine};
 ghost use Rattle.gap_store.specs.Records.{taken};
 ghost use Rattle.gap_store.specs.Gaps.{gap_lines};
-ghost use Rattle.std.proofs.Common.{arith};
-ghost use Rattle.gap_store.specs.GapsLemmas.{length_lines};
-ghost use Rattle.gap_store.specs.Stored.{held_all, charged};
+ghost use Rattle.gap_store.specs.Stored.{kept_by};
 
 use super::moves::{insert_line, remove_line, replace_line};
 use super::store::GapStore;
@@ -35,15 +33,7 @@ impl LineStore for GapStore {
 
     ghost charge = { λ _. taken };
 
-    ghost kept = { λ s.
-        let n = length_lines s.gap s.memory.items in
-        let all = charged s.memory s.gap s.apart s.within s.fore s.aft in
-        let f = s.few in
-        record {
-          few = omega arith;
-          each = held_all s.gap s.memory.items s.held;
-          within = omega arith;
-        } };
+    ghost kept = { λ s. kept_by s.memory s.gap s.apart s.within s.fore s.aft s.few s.held };
 
     fn count(&self) -> usize {
         self.lines()

@@ -5,7 +5,7 @@ use Rattle.std.specs.Vec.{with_items}
 use Rattle.std.specs.List.{insert, remove}
 use Rattle.std.proofs.lemmas.List.{with_items_is}
 use Rattle.line.specs.Lines.{line_limit, is_line}
-use Rattle.line.specs.Stores.{charges}
+use Rattle.line.specs.Stores.{charges, Kept}
 use Rattle.line.proofs.Charges.{charges_one}
 use Rattle.line.proofs.Edits.{lines_set, lines_inserted, lines_removed}
 use Rattle.slot_store.specs.Slots.{slot_size, slots_in, slots_of, Held, with_line, with_slots}
@@ -15,6 +15,17 @@ use Rattle.slot_store.specs.Edited.{length_with, replaced, length_moved, slots_i
 -- the lines of a store are charged their number
 pub charged : (n : ℕ) (bytes : List ℕ) → charges (λ _. 1) (slots_of n bytes) ≡ n
 charged n bytes = charges_one (slots_of n bytes) ∙ length_slots n bytes
+
+-- what every store keeps
+pub kept_by : {Z : Type 0} (v : Vec ℕ Z) (n : ℕ) → n ≤ slots_in (vec_len v) → Held n (vec_items v) → Kept (slots_of n (vec_items v)) (slots_in (vec_len v)) (λ _. 1)
+kept_by v n within held =
+    let l = length_slots n (vec_items v) in
+    let all = charged n (vec_items v) in
+    record {
+      few = omega arith;
+      each = held_all n (vec_items v) held;
+      within = omega arith;
+    }
 
 module _ {Z : Type 0} (v : Vec ℕ Z) (n : ℕ) (few : n ≤ slots_in (vec_len v)) (held : Held n (vec_items v)) (ws : List ℕ) where
   long : vec_len v ≡ length (vec_items v)

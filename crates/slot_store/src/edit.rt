@@ -2,9 +2,7 @@
 ghost use Rattle.std.specs.Prelude.{◌≡◌, ◌<◌, ◌≤◌, vec_len, MatchResult};
 ghost use Rattle.line.specs.declared.fault.StoreFault.TheVariants.{NoLine};
 ghost use Rattle.slot_store.specs.Slots.{slots_in, slots_of};
-ghost use Rattle.std.proofs.Common.{arith};
-ghost use Rattle.slot_store.specs.SlotsLemmas.{length_slots, held_all};
-ghost use Rattle.slot_store.specs.Stored.{charged};
+ghost use Rattle.slot_store.specs.Stored.{kept_by};
 
 use super::bytes::{insert_line, line_in, move_slots, write_line};
 use super::store::SlotStore;
@@ -33,15 +31,7 @@ impl LineStore for SlotStore {
 
     ghost charge = { λ _ _. 1 };
 
-    ghost kept = { λ s.
-        let n = length_slots s.count s.memory.items in
-        let all = charged s.count s.memory.items in
-        let w = s.within in
-        record {
-          few = omega arith;
-          each = held_all s.count s.memory.items s.held;
-          within = omega arith;
-        } };
+    ghost kept = { λ s. kept_by s.memory s.count s.within s.held };
 
     fn count(&self) -> usize {
         self.count

@@ -1,10 +1,10 @@
 -- The lines of edited records. Assumes nothing.
-use Rattle.std.specs.Prelude.{◌≡◌, ℕ, suc, true, List, [], ◌∷◌, ◌++◌, length, take, drop, slice_set}
-use Rattle.std.proofs.Common.{sym, ap, ◌∙◌}
+use Rattle.std.specs.Prelude.{◌≡◌, ◌≤◌, ℕ, suc, true, List, [], ◌∷◌, ◌++◌, length, take, drop, slice_set, vec_items, vec_len, Vec}
+use Rattle.std.proofs.Common.{sym, ap, ◌∙◌, arith}
 use Rattle.std.specs.List.{insert, remove, AllByRecursion as All}
 use Rattle.std.proofs.lemmas.List.{length-map, map-append, map-set, take-map, drop-map}
 use Rattle.line.specs.Lines.{Line, is_line}
-use Rattle.line.specs.Stores.{charges}
+use Rattle.line.specs.Stores.{charges, store_limit, Kept}
 use Rattle.line.proofs.Charges.{charges_one}
 use Rattle.vec_store.specs.Records.{record_line, record_lines}
 use Rattle.vec_store.specs.declared.record.LineRecord.{LineRecord}
@@ -19,6 +19,14 @@ charged rs = charges_one (record_lines rs) ∙ length_lines rs
 pub all_lines : (rs : List LineRecord) → All (λ (l : Line). is_line l ≡ true) (record_lines rs)
 all_lines [] = tt
 all_lines (r ∷ rs) = (r.good, all_lines rs)
+
+-- what every store keeps
+pub kept_by : {Z : Type 0} (v : Vec LineRecord Z) (room : ℕ) → room ≤ store_limit → vec_len v ≤ room → Kept (record_lines (vec_items v)) room (λ _. 1)
+kept_by v room few within =
+    let l = v.ok.0 in
+    let n = length_lines (vec_items v) in
+    let all = charged (vec_items v) in
+    record { few = omega arith; each = all_lines (vec_items v); within = omega arith }
 
 module _ (rs : List LineRecord) (at : ℕ) (r : LineRecord) (line : Line) (e : record_line r ≡ line) where
   pub lines_replaced : record_lines (slice_set rs at r) ≡ slice_set (record_lines rs) at line

@@ -2,8 +2,7 @@
 ghost use Rattle.std.specs.Prelude.{◌≡◌, ◌<◌, ◌≤◌, vec_len, MatchResult};
 ghost use Rattle.line.specs.declared.fault.StoreFault.TheVariants.{NoLine};
 ghost use Rattle.vec_store.specs.Records.{record_lines};
-ghost use Rattle.std.proofs.Common.{arith};
-ghost use Rattle.vec_store.specs.RecordsLemmas.{length_lines, charged, all_lines};
+ghost use Rattle.vec_store.specs.RecordsLemmas.{kept_by};
 
 use super::record::LineRecord;
 use super::store::VecStore;
@@ -32,14 +31,7 @@ impl LineStore for VecStore {
 
     ghost charge = { λ _ _. 1 };
 
-    ghost kept = { λ s.
-        let rs = s.records.items in
-        let l = s.records.ok.0 in
-        let n = length_lines rs in
-        let all = charged rs in
-        let f = s.few in
-        let w = s.within in
-        record { few = omega arith; each = all_lines rs; within = omega arith } };
+    ghost kept = { λ s. kept_by s.records s.room s.few s.within };
 
     fn count(&self) -> usize {
         self.records.len()

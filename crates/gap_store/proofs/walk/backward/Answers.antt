@@ -7,8 +7,8 @@ loop-line-init c = (c.requires.place, ap length (sym c.requires.lines))
 
 pub overflow_sub-start : goal.overflow_sub-start
 overflow_sub-start c =
-    let i : ℕ = c.loop-line.-line - 1 in
-    let e : c.loop-line.-line ≡ i + 1 = omega arith in
+    let i : ℕ = c.loop-line._line - 1 in
+    let e : c.loop-line._line ≡ i + 1 = omega arith in
     let s = back_step c.args.count c.args.part.now c.requires.lines i (omega arith) c.loop-line.start (c.loop-line.invariant.1 ∙ ap (λ (k : ℕ). start_of k c.args.part.now) e) in
     omega arith
 
@@ -21,8 +21,8 @@ bounds-part-start c =
 
 pub overflow_sub-start-in-loop-line : goal.overflow_sub-start-in-loop-line
 overflow_sub-start-in-loop-line c =
-    let i : ℕ = c.loop-line.-line - 1 in
-    let e : c.loop-line.-line ≡ i + 1 = omega arith in
+    let i : ℕ = c.loop-line._line - 1 in
+    let e : c.loop-line._line ≡ i + 1 = omega arith in
     let s = back_step c.args.count c.args.part.now c.requires.lines i (omega arith) c.loop-line.start (c.loop-line.invariant.1 ∙ ap (λ (k : ℕ). start_of k c.args.part.now) e) in
     s.1
 

@@ -9,7 +9,7 @@ bounds-part-start c =
 
 pub overflow_add-start-in-loop-line : goal.overflow_add-start-in-loop-line
 overflow_add-start-in-loop-line c =
-    let s = forward_step c.requires.0 c.args.part.now c.requires.2 c.loop-line.-line (omega (arith, c.requires.1)) c.loop-line.start c.loop-line.invariant in
+    let s = forward_step c.requires.0 c.args.part.now c.requires.2 c.loop-line._line (omega (arith, c.requires.1)) c.loop-line.start c.loop-line.invariant in
     omega arith
 
 pub loop-line-preserved : goal.loop-line-preserved

@@ -3,8 +3,8 @@ use Rattle.slot_store.specs.Slots.{slot_size, slot_at}
 use Rattle.slot_store.specs.SlotsLemmas.{length_byte, slot_part, held_length}
 use Rattle.slot_store.proofs.bytes.line_in.Goals as goal
 
-pub slice-bounds-result-end : goal.slice-bounds-result-end
-slice-bounds-result-end c =
+pub slice_bounds-result-end : goal.slice_bounds-result-end
+slice_bounds-result-end c =
     let start : ℕ = slot_size * c.args.at in
     let same : (start + 1) - 1 ≡ start = omega arith in
     let byte : get_or c.args.memory.now ((start + 1) - 1) 0 ≡ get_or c.args.memory.now start 0 =

@@ -10,7 +10,7 @@ use Rattle.gap_store.specs.Gaps.{gap_lines, Holds}
 use Rattle.gap_store.specs.GapsLemmas.{length_lines}
 use Rattle.gap_store.specs.Stored.{held_all, sound_lent, charged, now_lines, now_kept}
 use Rattle.gap_store.proofs.edit.GapStoreLineStore.insert.Goals as goal
-use Rattle.gap_store.proofs.edit.GapStoreLineStore.insert.Goals.{then-lines-ge-STORE-LIMIT-via-then-lines-ge-STORE-LIMIT, then-lines-ge-STORE-LIMIT-via-else-lines-ge-STORE-LIMIT+then-line-room}
+use Rattle.gap_store.proofs.edit.GapStoreLineStore.insert.Goals.{then-lines-ge-STORE_LIMIT-via-then-lines-ge-STORE_LIMIT, then-lines-ge-STORE_LIMIT-via-else-lines-ge-STORE_LIMIT+then-line-room}
 
 pub returns-then-at-lines : goal.returns-then-at-lines
 returns-then-at-lines c =
@@ -45,9 +45,9 @@ returns-then-lines-ge-STORE_LIMIT c =
     record {
       first =
           elim c.then-lines-ge-STORE_LIMIT.branch [
-            | then-lines-ge-STORE-LIMIT-via-then-lines-ge-STORE-LIMIT w ↦
+            | then-lines-ge-STORE_LIMIT-via-then-lines-ge-STORE_LIMIT w ↦
                 insert_many (vec_len s.memory) taken ls c.args.at _ _ line (omega arith) c.len.ensures place none (omega arith)
-            | then-lines-ge-STORE-LIMIT-via-else-lines-ge-STORE-LIMIT+then-line-room w ↦
+            | then-lines-ge-STORE_LIMIT-via-else-lines-ge-STORE_LIMIT+then-line-room w ↦
                 insert_full (vec_len s.memory) taken ls c.args.at _ _ line (omega arith) c.len.ensures place none (omega arith)
           ];
       same = refl;
@@ -79,7 +79,8 @@ invariant_of-self c =
     let n = length_lines s.gap (vec_items s.memory) in
     let m = length-insert ls c.args.at line (omega arith) in
     let good = lines_inserted ls c.args.at line (line_from_none line c.in_ok-check_line.ensures) (held_all s.gap (vec_items s.memory) s.held) in
-    now_kept s.memory r ws long new h s.small (omega arith) good
+    let k = now_kept s.memory r ws long new h s.small (omega arith) good in
+    record { apart = k.0; within = k.1; small = k.2; few = k.3; fore = k.4; aft = k.5; held = k.6 }
 
 pub returns : goal.returns
 returns c =

@@ -45,7 +45,8 @@ invariant_of-self c =
     let m = length-remove ls c.args.at place in
     let f = s.few in
     let good = lines_removed ls c.args.at (held_all s.gap (vec_items s.memory) s.held) in
-    now_kept s.memory r ws long new h s.small (omega arith) good
+    let k = now_kept s.memory r ws long new h s.small (omega arith) good in
+    record { apart = k.0; within = k.1; small = k.2; few = k.3; fore = k.4; aft = k.5; held = k.6 }
 
 pub returns : goal.returns
 returns c =

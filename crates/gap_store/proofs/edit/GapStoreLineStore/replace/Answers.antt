@@ -99,7 +99,8 @@ invariant_of-self c =
     let m = length-set ls c.args.at line in
     let f = s.few in
     let good = lines_set ls c.args.at line (line_from_none line c.in_ok-check_line.ensures) (held_all s.gap (vec_items s.memory) s.held) in
-    now_kept s.memory r ws long new h s.small (omega arith) good
+    let k = now_kept s.memory r ws long new h s.small (omega arith) good in
+    record { apart = k.0; within = k.1; small = k.2; few = k.3; fore = k.4; aft = k.5; held = k.6 }
 
 pub returns : goal.returns
 returns c =

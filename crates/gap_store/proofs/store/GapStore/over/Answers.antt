@@ -8,10 +8,13 @@ invariant_of-result c =
     let long = v.ok.0 in
     let l = ap length c.truncate.ensures.items in
     let t = length-take 524288 (vec_items c.args.memory) in
-    let all : length (vec_items v) ≤ c.len.result = omega (arith, c.len.ensures) in (
-      omega arith,
-      (
-        omega (arith, c.len.ensures),
-        (omega arith, (omega arith, (refl, (sym (drop_all c.len.result (vec_items v) all), ((λ i h. refl), tt))))),
-      ),
-    )
+    let all : length (vec_items v) ≤ c.len.result = omega (arith, c.len.ensures) in
+    record {
+      apart = omega arith;
+      within = omega (arith, c.len.ensures);
+      small = omega arith;
+      few = omega arith;
+      fore = refl;
+      aft = sym (drop_all c.len.result (vec_items v) all);
+      held = λ i h. refl;
+    }

@@ -16,14 +16,14 @@ returns-then-at-self c =
       same = refl;
     }
 
-pub returns-in-err-check-line : goal.returns-in-err-check-line
-returns-in-err-check-line c =
+pub returns-in_err-check_line : goal.returns-in_err-check_line
+returns-in_err-check_line c =
     let s = c.args.self.now in
     let n = length_slots s.count (vec_items s.memory) in
-    let p = err_from_is_err_and c.from-residual.result c.from-residual.ensures.1 in
+    let p = err_from_is_err_and c.from_residual.result c.from_residual.ensures.1 in
     rw (p.1, p.2)
     record {
-      first = insert_no_line (slots_in (vec_len s.memory)) (λ _. 1) (slots_of s.count (vec_items s.memory)) c.args.at c.args.line.now _ (omega arith) c.in-err-check-line.ensures;
+      first = insert_no_line (slots_in (vec_len s.memory)) (λ _. 1) (slots_of s.count (vec_items s.memory)) c.args.at c.args.line.now _ (omega arith) c.in_err-check_line.ensures;
       same = refl;
     }
 
@@ -39,14 +39,17 @@ returns-then-self-slots c =
       same = refl;
     }
 
-pub invariant-of-self : goal.invariant-of-self
-invariant-of-self c =
+pub invariant_of-self : goal.invariant_of-self
+invariant_of-self c =
     let s = c.args.self.now in
     let line = c.args.line.now in
-    let good = line_from_none line c.in-ok-check-line.ensures in
+    let good = line_from_none line c.in_ok-check_line.ensures in
     let room : s.count < slots_in (vec_len s.memory) = omega arith in
-    let e = c.insert-line.ensures ∙ ap (λ (xs : List ℕ). with_line (with_slots xs c.args.at s.count (c.args.at + 1)) c.args.at line) c.as-mut-slice.ensures.value in
-    (omega arith, (held_inserted s.memory s.count s.within s.held c.insert-line.new.memory c.args.at line (omega arith) room good (line_short line good) e, tt))
+    let e = c.insert_line.ensures ∙ ap (λ (xs : List ℕ). with_line (with_slots xs c.args.at s.count (c.args.at + 1)) c.args.at line) c.as_mut_slice.ensures.value in
+    record {
+      within = omega arith;
+      held = held_inserted s.memory s.count s.within s.held c.insert_line.new.memory c.args.at line (omega arith) room good (line_short line good) e;
+    }
 
 pub returns : goal.returns
 returns c =

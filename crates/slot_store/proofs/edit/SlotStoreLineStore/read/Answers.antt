@@ -5,12 +5,12 @@ use Rattle.slot_store.specs.Slots.{slot_at, slot_line, slots_of}
 use Rattle.slot_store.specs.SlotsLemmas.{length_slots, get_or_slots}
 use Rattle.slot_store.proofs.edit.SlotStoreLineStore.read.Goals as goal
 
-pub returns-in-err-check-at : goal.returns-in-err-check-at
-returns-in-err-check-at c =
+pub returns-in_err-check_at : goal.returns-in_err-check_at
+returns-in_err-check_at c =
     let s = c.args.self.now in
     let n = length_slots s.count (vec_items s.memory) in
-    let p = err_from_is_err_and c.from-residual.result c.from-residual.ensures.1 in
-    let h = c.in-err-check-at.ensures in
+    let p = err_from_is_err_and c.from_residual.result c.from_residual.ensures.1 in
+    let h = c.in_err-check_at.ensures in
     rw (p.1, p.2, h.1) (omega arith, ap (NoLine c.args.at) (sym n), refl)
 
 pub returns : goal.returns
@@ -26,6 +26,6 @@ returns c =
     in (
       omega arith,
       ap length is,
-      ap (λ (k : ℕ). c.copy-from-slice.new.self ++ drop k c.args.line.now) none
-          ∙ ap (λ (xs : List ℕ). xs ++ drop (length bytes) c.args.line.now) (c.copy-from-slice.ensures.after ∙ is),
+      ap (λ (k : ℕ). c.copy_from_slice.new.self ++ drop k c.args.line.now) none
+          ∙ ap (λ (xs : List ℕ). xs ++ drop (length bytes) c.args.line.now) (c.copy_from_slice.ensures.after ∙ is),
     )

@@ -6,24 +6,27 @@ use Rattle.slot_store.specs.SlotsLemmas.{length_slots}
 use Rattle.slot_store.specs.Stored.{charged, now_removed, held_removed}
 use Rattle.slot_store.proofs.edit.SlotStoreLineStore.remove.Goals as goal
 
-pub returns-in-err-check-at : goal.returns-in-err-check-at
-returns-in-err-check-at c =
+pub returns-in_err-check_at : goal.returns-in_err-check_at
+returns-in_err-check_at c =
     let s = c.args.self.now in
     let n = length_slots s.count (vec_items s.memory) in
-    let p = err_from_is_err_and c.from-residual.result c.from-residual.ensures.1 in
-    let h = c.in-err-check-at.ensures in
+    let p = err_from_is_err_and c.from_residual.result c.from_residual.ensures.1 in
+    let h = c.in_err-check_at.ensures in
     rw (p.1, p.2, h.1)
     record {
       first = remove_nowhere (slots_in (vec_len s.memory)) (λ _. 1) (slots_of s.count (vec_items s.memory)) c.args.at s.count (sym n) h.0;
       same = refl;
     }
 
-pub invariant-of-self : goal.invariant-of-self
-invariant-of-self c =
+pub invariant_of-self : goal.invariant_of-self
+invariant_of-self c =
     let s = c.args.self.now in
     let w = s.within in
-    let e = c.move-slots.ensures ∙ ap (λ (xs : List ℕ). with_slots xs (c.args.at + 1) s.count c.args.at) c.as-mut-slice.ensures.value in
-    (omega arith, (held_removed s.memory s.count s.within s.held c.move-slots.new.memory c.args.at (omega arith) e, tt))
+    let e = c.move_slots.ensures ∙ ap (λ (xs : List ℕ). with_slots xs (c.args.at + 1) s.count c.args.at) c.as_mut_slice.ensures.value in
+    record {
+      within = omega arith;
+      held = held_removed s.memory s.count s.within s.held c.move_slots.new.memory c.args.at (omega arith) e;
+    }
 
 pub returns : goal.returns
 returns c =

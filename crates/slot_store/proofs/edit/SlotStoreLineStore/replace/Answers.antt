@@ -7,36 +7,39 @@ use Rattle.slot_store.specs.SlotsLemmas.{length_slots}
 use Rattle.slot_store.specs.Stored.{charged, now_replaced, held_replaced}
 use Rattle.slot_store.proofs.edit.SlotStoreLineStore.replace.Goals as goal
 
-pub returns-in-err-check-at : goal.returns-in-err-check-at
-returns-in-err-check-at c =
+pub returns-in_err-check_at : goal.returns-in_err-check_at
+returns-in_err-check_at c =
     let s = c.args.self.now in
     let n = length_slots s.count (vec_items s.memory) in
-    let p = err_from_is_err_and c.from-residual.result c.from-residual.ensures.1 in
-    let h = c.in-err-check-at.ensures in
+    let p = err_from_is_err_and c.from_residual.result c.from_residual.ensures.1 in
+    let h = c.in_err-check_at.ensures in
     rw (p.1, p.2, h.1)
     record {
       first = replace_nowhere (slots_in (vec_len s.memory)) (λ _. 1) (slots_of s.count (vec_items s.memory)) c.args.at s.count c.args.line.now (sym n) h.0;
       same = refl;
     }
 
-pub returns-in-err-check-line : goal.returns-in-err-check-line
-returns-in-err-check-line c =
+pub returns-in_err-check_line : goal.returns-in_err-check_line
+returns-in_err-check_line c =
     let s = c.args.self.now in
     let n = length_slots s.count (vec_items s.memory) in
-    let p = err_from_is_err_and c.from-residual-in-err-check-line.result c.from-residual-in-err-check-line.ensures.1 in
+    let p = err_from_is_err_and c.from_residual-in_err-check_line.result c.from_residual-in_err-check_line.ensures.1 in
     rw (p.1, p.2)
     record {
-      first = replace_no_line (slots_in (vec_len s.memory)) (λ _. 1) (slots_of s.count (vec_items s.memory)) c.args.at c.args.line.now _ (omega arith) c.in-err-check-line.ensures;
+      first = replace_no_line (slots_in (vec_len s.memory)) (λ _. 1) (slots_of s.count (vec_items s.memory)) c.args.at c.args.line.now _ (omega arith) c.in_err-check_line.ensures;
       same = refl;
     }
 
-pub invariant-of-self : goal.invariant-of-self
-invariant-of-self c =
+pub invariant_of-self : goal.invariant_of-self
+invariant_of-self c =
     let s = c.args.self.now in
     let line = c.args.line.now in
-    let good = line_from_none line c.in-ok-check-line.ensures in
-    let e = c.write-line.ensures ∙ ap (λ (xs : List ℕ). with_line xs c.args.at line) c.as-mut-slice.ensures.value in
-    (s.within, (held_replaced s.memory s.count s.within s.held c.write-line.new.memory c.args.at line (omega arith) good (line_short line good) e, tt))
+    let good = line_from_none line c.in_ok-check_line.ensures in
+    let e = c.write_line.ensures ∙ ap (λ (xs : List ℕ). with_line xs c.args.at line) c.as_mut_slice.ensures.value in
+    record {
+      within = s.within;
+      held = held_replaced s.memory s.count s.within s.held c.write_line.new.memory c.args.at line (omega arith) good (line_short line good) e;
+    }
 
 pub returns : goal.returns
 returns c =

@@ -16,16 +16,16 @@ returns-then-at-count c =
       same = refl;
     }
 
-pub returns-in-err-check-line : goal.returns-in-err-check-line
-returns-in-err-check-line c =
+pub returns-in_err-check_line : goal.returns-in_err-check_line
+returns-in_err-check_line c =
     let s = c.args.self.now in
     let rs = vec_items s.records in
     let l = s.records.ok.0 in
     let n = length_lines rs in
-    let p = err_from_is_err_and c.from-residual.result c.from-residual.ensures.1 in
+    let p = err_from_is_err_and c.from_residual.result c.from_residual.ensures.1 in
     rw (p.1, p.2)
     record {
-      first = insert_no_line s.room (λ _. 1) (record_lines rs) c.args.at c.args.line.now _ (omega arith) c.in-err-check-line.ensures;
+      first = insert_no_line s.room (λ _. 1) (record_lines rs) c.args.at c.args.line.now _ (omega arith) c.in_err-check_line.ensures;
       same = refl;
     }
 

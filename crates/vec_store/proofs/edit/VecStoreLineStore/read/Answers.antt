@@ -6,13 +6,13 @@ use Rattle.vec_store.specs.Records.{record_line, record_lines}
 use Rattle.vec_store.specs.RecordsLemmas.{length_lines}
 use Rattle.vec_store.proofs.edit.VecStoreLineStore.read.Goals as goal
 
-pub returns-in-err-check-at : goal.returns-in-err-check-at
-returns-in-err-check-at c =
+pub returns-in_err-check_at : goal.returns-in_err-check_at
+returns-in_err-check_at c =
     let s = c.args.self.now in
     let rs = vec_items s.records in
     let n = s.records.ok.0 ∙ sym (length_lines rs) in
-    let p = err_from_is_err_and c.from-residual.result c.from-residual.ensures.1 in
-    let h = c.in-err-check-at.ensures in
+    let p = err_from_is_err_and c.from_residual.result c.from_residual.ensures.1 in
+    let h = c.in_err-check_at.ensures in
     rw (p.1, p.2, h.1) (omega arith, ap (NoLine c.args.at) n, refl)
 
 pub returns : goal.returns

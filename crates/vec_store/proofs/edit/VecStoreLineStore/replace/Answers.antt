@@ -6,29 +6,29 @@ use Rattle.vec_store.specs.Records.{record_lines}
 use Rattle.vec_store.specs.RecordsLemmas.{length_lines, charged, lines_replaced}
 use Rattle.vec_store.proofs.edit.VecStoreLineStore.replace.Goals as goal
 
-pub returns-in-err-check-at : goal.returns-in-err-check-at
-returns-in-err-check-at c =
+pub returns-in_err-check_at : goal.returns-in_err-check_at
+returns-in_err-check_at c =
     let s = c.args.self.now in
     let rs = vec_items s.records in
-    let p = err_from_is_err_and c.from-residual.result c.from-residual.ensures.1 in
-    let h = c.in-err-check-at.ensures in
+    let p = err_from_is_err_and c.from_residual.result c.from_residual.ensures.1 in
+    let h = c.in_err-check_at.ensures in
     rw (p.1, p.2, h.1)
     record {
       first = replace_nowhere s.room (λ _. 1) (record_lines rs) c.args.at _ c.args.line.now (s.records.ok.0 ∙ sym (length_lines rs)) h.0;
       same = refl;
     }
 
-pub returns-in-err-check-line : goal.returns-in-err-check-line
-returns-in-err-check-line c =
+pub returns-in_err-check_line : goal.returns-in_err-check_line
+returns-in_err-check_line c =
     let s = c.args.self.now in
     let rs = vec_items s.records in
     let l = s.records.ok.0 in
     let n = length_lines rs in
-    let p = err_from_is_err_and c.from-residual-in-err-check-line.result c.from-residual-in-err-check-line.ensures.1 in
-    let h = c.in-ok-check-at.ensures in
+    let p = err_from_is_err_and c.from_residual-in_err-check_line.result c.from_residual-in_err-check_line.ensures.1 in
+    let h = c.in_ok-check_at.ensures in
     rw (p.1, p.2)
     record {
-      first = replace_no_line s.room (λ _. 1) (record_lines rs) c.args.at c.args.line.now _ (omega arith) c.in-err-check-line.ensures;
+      first = replace_no_line s.room (λ _. 1) (record_lines rs) c.args.at c.args.line.now _ (omega arith) c.in_err-check_line.ensures;
       same = refl;
     }
 

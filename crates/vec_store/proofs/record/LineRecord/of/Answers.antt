@@ -11,10 +11,13 @@ front xs line rest e = rw e (take-append_seam line rest)
 held : (xs line rest : List ℕ) → xs ≡ line → is_line line ≡ true → is_line (take (length line) (xs ++ rest)) ≡ true
 held xs line rest e h = rw (front xs line rest e) h
 
-pub invariant-of-result : goal.invariant-of-result
-invariant-of-result c =
+pub invariant_of-result : goal.invariant_of-result
+invariant_of-result c =
     let line : List ℕ = c.args.line.now in
-    (line_short line c.requires, (held c.copy-from-slice.new.self line _ c.copy-from-slice.ensures.after c.requires, tt))
+    record {
+      short = line_short line c.requires;
+      good = held c.copy_from_slice.new.self line _ c.copy_from_slice.ensures.after c.requires;
+    }
 
 pub returns : goal.returns
 returns c = front c.copy_from_slice.new.self c.args.line.now _ c.copy_from_slice.ensures.after
