@@ -7,9 +7,9 @@ use Rattle.line.proofs.Edits.{line_short}
 use Rattle.numberer.specs.Printing.{ranges}
 use Rattle.numberer.proofs.NumbererEngine.step.Goals as goal
 
-pub print-text-requires : goal.print-text-requires
-print-text-requires c =
-    let l = line_short c.args.line.now (sym c.if-not-is-line.ensures) in
+pub print_text-requires : goal.print_text-requires
+print_text-requires c =
+    let l = line_short c.args.line.now (sym c.if-not-is_line.ensures) in
     let e : text c.in-Ok-Text.text.now ≡ said spelled takes c.args.line.now = search rules in
     let t = text_short takes spelled c.args.line.now c.in-Ok-Text.text.now e in
     omega arith
