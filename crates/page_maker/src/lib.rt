@@ -52,7 +52,7 @@ fn place_line<E: Engine>(
     body: &mut Body,
 ) -> Placed<E::State>
     requires { rows ≤ page_rows }
-    ensures { LineGives means ((model engine.now).step (means state) line.now) rows body.old result body.new }
+    ensures { LineGives E.means ((E.model engine.now).step (E.means state) line.now) rows body.old result body.new }
 {
     let mut buffer = [0u8; STEP_ROWS * ROW_WIDTH];
     let (next, answer) = engine.step(state, line, &mut buffer);
@@ -71,7 +71,7 @@ fn place_line<E: Engine>(
 // The end onto the page, where it fits below the rows there: its rows.
 fn place_end<E: Engine>(engine: &E, state: E::State, rows: usize, body: &mut Body) -> Option<usize>
     requires { rows ≤ page_rows }
-    ensures { EndGives (means state) ((model engine.now).close (means state)) rows body.old result body.new }
+    ensures { EndGives (E.means state) ((E.model engine.now).close (E.means state)) rows body.old result body.new }
 {
     let mut buffer = [0u8; STEP_ROWS * ROW_WIDTH];
     let more = engine.close(state, &mut buffer);
@@ -92,7 +92,7 @@ fn place_item<E: Engine, L: LineStore>(
     body: &mut Body,
 ) -> Placed<E::State>
     requires { rows ≤ page_rows }
-    ensures { PlaceGives means (length (lines store.now)) item (stepped (model engine.now) (means state) (drop item (lines store.now))) (means state) rows body.old result body.new }
+    ensures { PlaceGives E.means (length (L.lines store.now)) item (stepped (E.model engine.now) (E.means state) (drop item (L.lines store.now))) (E.means state) rows body.old result body.new }
 {
     let mut line = [0u8; LINE_LIMIT];
     match store.read(item, &mut line) {
@@ -111,7 +111,7 @@ fn fill_page<E: Engine, L: LineStore>(
     at: Position<E::State>,
     body: &mut Body,
 ) -> Result<Filling<E::State>, LineFault>
-    ensures { FillGives means (length (lines store.now)) (fill (model engine.now) (drop at.first (lines store.now)) (means at.state) 0 []) at.first at.page body.old result body.new }
+    ensures { FillGives E.means (length (L.lines store.now)) (fill (E.model engine.now) (drop at.first (L.lines store.now)) (E.means at.state) 0 []) at.first at.page body.old result body.new }
 {
     let first = at.first;
     let mut state = at.state;
@@ -155,8 +155,8 @@ fn fill_page<E: Engine, L: LineStore>(
 pub fn first_position<E: Engine>(engine: &E) -> Position<E::State>
     ensures page { result.page ≡ 0 }
     ensures first { result.first ≡ 0 }
-    ensures state { means result.state ≡ (model engine.now).start }
-    ensures whole { (limit : ℕ) (text : List Line) → ahead means (model engine.now) text limit result ≡ formatted (model engine.now) limit text }
+    ensures state { E.means result.state ≡ (E.model engine.now).start }
+    ensures whole { (limit : ℕ) (text : List Line) → ahead E.means (E.model engine.now) text limit result ≡ formatted (E.model engine.now) limit text }
 {
     Position {
         page: 0,
@@ -173,7 +173,7 @@ pub fn make_page<E: Engine, L: LineStore>(
     limit: usize,
     body: &mut Body,
 ) -> Result<Made<E::State>, PageFault>
-    ensures { PageGives means (model engine.now) (lines store.now) limit at body.old result body.new }
+    ensures { PageGives E.means (E.model engine.now) (L.lines store.now) limit at body.old result body.new }
 {
     if at.page >= limit {
         return Err(PageFault::TooManyPages {

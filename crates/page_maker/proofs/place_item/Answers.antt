@@ -3,8 +3,8 @@ use Rattle.line.proofs.Short.{kept_short}
 use Rattle.page_maker.proofs.Items.{read_is, line_placed, end_on, end_over}
 use Rattle.page_maker.proofs.place_item.Goals as goal
 
-pub slice-bounds-place-line-end : goal.slice-bounds-place-line-end
-slice-bounds-place-line-end g c =
+pub slice_bounds-place_line-end : goal.slice_bounds-place_line-end
+slice_bounds-place_line-end g c =
     let store = c.args.store.now in
     let r = c.in-Ok.ensures in
     let k = kept_short (g.L.LineStore.lines store) (g.L.LineStore.capacity store) (g.L.LineStore.charge store) c.args.item (g.met.L.LineStore.kept store) r.0 in
@@ -17,15 +17,15 @@ returns-in-Ok g c =
     let lines = g.L.LineStore.lines store in
     let r = c.in-Ok.ensures in
     let line = read_is (get_or lines c.args.item []) _ c.read.new.line c.in-Ok.length r.1 r.2 in
-    line_placed g.E.Engine.means (g.E.Engine.model c.args.engine.now) lines c.args.item (g.E.Engine.means c.args.state) c.args.rows c.args.body.now c.place-line.new.body (take (c.in-Ok.length - 0) c.read.new.line) c.place-line.result r.0 line c.place-line.ensures
+    line_placed g.E.Engine.means (g.E.Engine.model c.args.engine.now) lines c.args.item (g.E.Engine.means c.args.state) c.args.rows c.args.body.now c.place_line.new.body (take (c.in-Ok.length - 0) c.read.new.line) c.place_line.result r.0 line c.place_line.ensures
 
 pub returns-in-Some : goal.returns-in-Some
 returns-in-Some g c =
     let lines = g.L.LineStore.lines c.args.store.now in
     let h = c.in-Err.ensures.0 in
-    (h, end_on g.E.Engine.means (g.E.Engine.model c.args.engine.now) lines c.args.item (g.E.Engine.means c.args.state) c.args.rows c.args.body.now c.place-end.new.body c.in-Some.more h c.in-Some.ensures)
+    (h, end_on g.E.Engine.means (g.E.Engine.model c.args.engine.now) lines c.args.item (g.E.Engine.means c.args.state) c.args.rows c.args.body.now c.place_end.new.body c.in-Some.more h c.in-Some.ensures)
 
 pub returns-in-None : goal.returns-in-None
 returns-in-None g c =
     let lines = g.L.LineStore.lines c.args.store.now in
-    end_over g.E.Engine.means (g.E.Engine.model c.args.engine.now) lines c.args.item (g.E.Engine.means c.args.state) c.args.rows c.args.body.now c.place-end.new.body c.in-Err.ensures.0 c.in-None.ensures
+    end_over g.E.Engine.means (g.E.Engine.model c.args.engine.now) lines c.args.item (g.E.Engine.means c.args.state) c.args.rows c.args.body.now c.place_end.new.body c.in-Err.ensures.0 c.in-None.ensures
