@@ -22,8 +22,8 @@ pub fn next_page<E: Engine, L: LineStore>(
     limit: u16,
     body: &mut Body,
 ) -> Result<Printed<E::State>, PageFault>
-    ensures page { NextGives means (model engine.now) (lines store.now) limit at body.old result body.new }
-    ensures law { StepsLaw (model engine.now) }
+    ensures page { NextGives E.means (E.model engine.now) (L.lines store.now) limit at body.old result body.new }
+    ensures law { StepsLaw (E.model engine.now) }
 {
     let made = make_page(engine, store, at, usize::from(limit), body)?;
     let following = made.next;

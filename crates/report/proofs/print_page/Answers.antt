@@ -12,7 +12,7 @@ returns c =
     let body = c.args.body.now in
     let n : c.loop-row.row ≡ 40 = omega arith in
     let shown = c.in_ok-head.ensures.ok in
-    let head : vec_items c.push.new.self ≡ page_head c.args.numbers ++ (10 ∷ []) = c.in_ok-push.ensures.items ∙ ap (λ l. l ++ (10 ∷ [])) (c.in_ok-text.ensures.items ∙ c.as-bytes.ensures.value ∙ shown) in
+    let head : vec_items c.push.new.self ≡ page_head c.args.numbers ++ (10 ∷ []) = c.in_ok-push.ensures.items ∙ ap (λ l. l ++ (10 ∷ [])) (c.in_ok-text.ensures.items ∙ c.as_bytes.ensures.value ∙ shown) in
     c.loop-row.invariant
     ∙ ap (λ k. vec_items c.push.new.self ++ rows_text k body) n
     ∙ ap (λ l. l ++ rows_text 40 body) head
