@@ -50,10 +50,7 @@ fn parse_words(rt: &HostRuntime) -> anyhow::Result<Command> {
         return Ok(Command::Help);
     }
     if first.as_str() != "number" {
-        let message = format!(in rt.alloc();
-            "there is no engine `{first}`; the engine is `number`"
-        )?;
-        return Err(message.into());
+        return Err(anyhow!("there is no engine `{first}`; the engine is `number`"));
     }
     if words.next().is_some() {
         return Err(anyhow!("too many arguments; `protocol --help` tells how it is used"));
@@ -66,10 +63,7 @@ fn read_log(rt: &HostRuntime, file: Option<String>) -> anyhow::Result<Vec<u8>> {
     match file {
         Some(path) => match fs::read(rt, path.as_str()) {
             Ok(bytes) => Ok(bytes),
-            Err(error) => {
-                let message = format!(in rt.alloc(); "{path}: {error}")?;
-                Err(message.into())
-            }
+            Err(error) => Err(anyhow!("{path}: {error}")),
         },
         None => {
             let mut bytes = Vec::new(rt.alloc());
