@@ -1,7 +1,7 @@
 -- Each change of an index leaves an index.
-use Rattle.std.proofs.Common.{◌≡◌, ℕ, zero, suc, ◌+◌, ◌-◌, ◌/◌, ◌<◌, ◌≤◌, min, ◌⊎◌, List, [], ◌∷◌, ◌++◌, map, length, take, drop, Some, None, sym, refl, ap, ◌∙◌, subst, inl, inr, append_assoc, append-nil, arith}
+use Rattle.std.proofs.Common.{◌≡◌, ℕ, suc, ◌+◌, ◌-◌, ◌/◌, ◌<◌, ◌≤◌, ◌⊎◌, List, [], ◌∷◌, ◌++◌, length, take, Some, sym, refl, ap, ◌∙◌, subst, inl, inr, append-nil, arith}
 use Rattle.std.specs.List.{slice_get}
-use Rattle.std.proofs.lemmas.List.{length-append, take_all, drop_all, length_push}
+use Rattle.std.proofs.lemmas.List.{take_all, length_push}
 use Rattle.std.proofs.lemmas.Bool.{cases_lt, cases_eq}
 use Rattle.line.specs.Stores.{store_limit}
 use Rattle.page_rule.specs.Pages.{page_rows}
@@ -12,9 +12,8 @@ use Rattle.page_table.specs.declared.state.Phase.{Phase}
 use Rattle.page_table.specs.declared.state.Phase.TheVariants.{Unfilled, Edited, Resumed, Settled}
 use Rattle.page_table.specs.Indexes.{Index, no_way, way_of, limit, held, users}
 use Rattle.page_table.specs.Sound.{FollowFrom, Filled, FewRows, Within, Apart, GoodPlaces, Sound, Restart}
-use Rattle.page_table.specs.Free.{Free}
 use Rattle.page_table.specs.Settled.{settled}
-use Rattle.page_table.specs.Changes.{empty, in_phase, Holds, Begins, Begins.at_start, Begins.at_page, next_page, Admits, gone_on, added, kept_at, TakesOver}
+use Rattle.page_table.specs.Changes.{empty, in_phase, Begins, Begins.at_start, Begins.at_page, next_page, Admits, gone_on, added, kept_at, TakesOver}
 use Rattle.page_table.proofs.Elements.{none_some, some_single, nth_within, nth_left, each_append, each_left, each_right, each_one}
 use Rattle.page_table.proofs.Held.{held_append, held_mono, first_is, end_is, follow_append, follow_one, follow_none}
 use Rattle.page_table.proofs.Users.{users_append, users_one, users_other}

@@ -1,11 +1,9 @@
 -- An edit leaves an index.
-use Rattle.std.proofs.Common.{◌≡◌, ℕ, ◌+◌, ◌-◌, ◌<◌, ◌≤◌, min, cond, ltb, leb, ◌⊎◌, List, [], Some, None, Option, sym, refl, ap, ◌∙◌, subst, inl, inr, arith}
+use Rattle.std.proofs.Common.{◌≡◌, ℕ, ◌+◌, ◌-◌, ◌<◌, ◌≤◌, cond, ltb, leb, ◌⊎◌, Some, None, sym, refl, ◌∙◌, inl, inr, arith}
 use Rattle.std.proofs.lemmas.Bool.{cases_lt, le-ltb, lt-leb}
 use Rattle.line.specs.declared.fault.StoreFault.{StoreFault}
-use Rattle.line.specs.Stores.{Edit, Edit.replace, Edit.insert, Edit.remove, place_fault, store_limit}
-use Rattle.page_rule.specs.declared.marks.Marks.{Marks}
+use Rattle.line.specs.Stores.{Edit, Edit.replace, Edit.insert, Edit.remove, place_fault}
 use Rattle.page_rule.specs.Marks.{marks_after}
-use Rattle.page_table.specs.declared.state.Phase.TheVariants.{Edited, Settled}
 use Rattle.page_table.specs.Indexes.{Index}
 use Rattle.page_table.specs.Sound.{Sound}
 use Rattle.page_table.specs.Changes.{TakesEdit, items_after, numbers_after, after_edit}

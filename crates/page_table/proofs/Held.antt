@@ -1,13 +1,13 @@
 -- The items of pages, and pages that follow on.
-use Rattle.std.proofs.Common.{◌≡◌, ℕ, zero, suc, ◌+◌, ◌-◌, ◌<◌, ◌≤◌, List, [], ◌∷◌, ◌++◌, map, length, take, drop, Some, sym, refl, ap, ◌∙◌, inl, inr, suc-add, zero-add, arith}
+use Rattle.std.proofs.Common.{◌≡◌, ℕ, zero, suc, ◌+◌, ◌<◌, ◌≤◌, List, [], ◌∷◌, ◌++◌, length, take, drop, Some, sym, refl, ap, ◌∙◌, inl, inr, suc-add, zero-add, arith}
 use Rattle.std.specs.List.{slice_get}
-use Rattle.std.proofs.lemmas.List.{take-append-le, take_at, take-take}
+use Rattle.std.proofs.lemmas.List.{take-append-le, take-take}
 use Rattle.page_table.specs.declared.entry.PageEntry.{PageEntry}
 use Rattle.page_table.specs.Indexes.{held}
 use Rattle.std.proofs.lemmas.Bool.{cases_lt}
 use Rattle.page_table.specs.Sound.{FollowFrom, Filled}
 use Rattle.page_table.specs.Changes.{Holds}
-use Rattle.page_table.proofs.Elements.{some_single, none_some, nth_within, nth_cases, nth_take, nth_drop, nth_map}
+use Rattle.page_table.proofs.Elements.{some_single, none_some, nth_within, nth_cases, nth_take}
 
 pub held_append : (ps qs : List PageEntry) → held (ps ++ qs) ≡ held ps + held qs
 held_append [] qs = sym (zero-add (held qs))

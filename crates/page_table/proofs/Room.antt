@@ -1,12 +1,11 @@
 -- There is a free place wherever one is needed.
-use Rattle.std.proofs.Common.{◌≡◌, ℕ, ◌+◌, ◌/◌, ◌<◌, ◌≤◌, Bool, true, false, ◌||◌, ltb, List, ◌++◌, length, sym, refl, ap, ◌∙◌, inl, inr, arith}
+use Rattle.std.proofs.Common.{ℕ, ◌<◌, ◌++◌, inl, inr, arith}
 use Rattle.std.proofs.lemmas.List.{length-append}
-use Rattle.std.proofs.lemmas.Bool.{cases_lt, ltb-false, ltb-true}
-use Rattle.page_table.specs.declared.state.Way.{Way}
-use Rattle.page_table.specs.Indexes.{Index, limit, users}
+use Rattle.std.proofs.lemmas.Bool.{cases_lt}
+use Rattle.page_table.specs.Indexes.{Index, users}
 use Rattle.page_table.specs.Sound.{Sound}
 use Rattle.page_table.specs.Free.{Free, NeedsPlace}
-use Rattle.page_table.proofs.Users.{users_append, enough}
+use Rattle.page_table.proofs.Users.{enough}
 use Rattle.page_table.proofs.Changing.{made_is}
 
 -- the pages that stand are at most half as many as the places, and those under way are fewer

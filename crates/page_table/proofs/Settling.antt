@@ -1,5 +1,5 @@
 -- The pages after a settling make an index.
-use Rattle.std.proofs.Common.{◌≡◌, ℕ, zero, suc, ◌+◌, ◌-◌, ◌<◌, ◌≤◌, ◌⊎◌, List, [], ◌∷◌, ◌++◌, map, length, take, drop, Some, sym, refl, ap, ◌∙◌, subst, inl, inr, append-nil, zero-add, arith}
+use Rattle.std.proofs.Common.{◌≡◌, ℕ, zero, suc, ◌+◌, ◌-◌, ◌<◌, ◌≤◌, List, [], ◌∷◌, ◌++◌, map, length, take, drop, Some, sym, refl, ap, ◌∙◌, subst, append-nil, zero-add, arith}
 use Rattle.std.specs.List.{slice_get}
 use Rattle.std.proofs.lemmas.List.{length-append, length-take, length-map, length-drop}
 use Rattle.page_rule.specs.Pages.{page_rows}
@@ -9,8 +9,8 @@ use Rattle.page_table.specs.declared.state.Way.{Way}
 use Rattle.page_table.specs.Indexes.{Index, way_of, limit, held, users}
 use Rattle.page_table.specs.Sound.{FollowFrom, Filled, FewRows, Within, Apart, Sound}
 use Rattle.page_table.specs.Settled.{moved_entry, settled_pages, settled}
-use Rattle.page_table.proofs.Elements.{Each, none_some, nth_drop, nth_map, each_append, each_left, each_right, each_take, each_drop, each_map}
-use Rattle.page_table.proofs.Held.{held_append, held_split, held_mono, first_is, follow_append, follow_take}
+use Rattle.page_table.proofs.Elements.{Each, none_some, nth_drop, nth_map, each_append, each_left, each_take, each_drop, each_map}
+use Rattle.page_table.proofs.Held.{held_append, held_split, first_is, follow_append, follow_take}
 use Rattle.page_table.proofs.Users.{users_append, users_without}
 
 pub held_moved : (from to : ℕ) (ps : List PageEntry) → held (map (moved_entry from to) ps) ≡ held ps

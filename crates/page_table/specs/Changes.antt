@@ -1,5 +1,5 @@
 -- How an index changes, and when it may. Assumes nothing.
-use Rattle.std.specs.Prelude.{◌≡◌, ℕ, ◌+◌, ◌-◌, ◌<◌, ◌≤◌, ◌⊎◌, List, [], ◌∷◌, ◌++◌, length, Some, None, Option}
+use Rattle.std.specs.Prelude.{◌≡◌, ℕ, ◌+◌, ◌-◌, ◌<◌, ◌≤◌, ◌⊎◌, List, [], ◌∷◌, ◌++◌, length, Some, None}
 use Rattle.std.specs.List.{slice_get}
 use Rattle.line.specs.Stores.{Edit, Edit.replace, Edit.insert, Edit.remove, place_fault, store_limit}
 use Rattle.page_rule.specs.Pages.{page_rows}
