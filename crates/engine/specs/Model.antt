@@ -1,6 +1,6 @@
 -- An engine by the meanings of its states. Assumes nothing.
 use Rattle.std.specs.Prelude.{◌≡◌, ℕ, ◌≤◌, List, length}
-use Rattle.std.specs.List.{AllByRecursion as All}
+use Rattle.std.specs.List.{AllByRecursion}
 use Rattle.line.specs.Lines.{Line}
 
 -- the bytes of a row, and the most rows that one item gives
@@ -28,7 +28,7 @@ pub record Model (M : Type 0) : Type 0 where
 -- few rows, each as wide as a row is
 pub record Sized (rows : List Row) : Type 0 where
   pub few : length rows ≤ step_rows
-  pub wide : All (λ (r : Row). length r ≡ row_width) rows
+  pub wide : AllByRecursion (λ (r : Row). length r ≡ row_width) rows
 
 abbrev pub SizedStep : {M : Type 0} → Stepped M → Type 0
 SizedStep (goes m rows) = Sized rows

@@ -2,7 +2,7 @@
 use Rattle.std.specs.Prelude.{◌≡◌, ℕ, ◌+◌, ◌-◌, ◌≤◌, true, List, [], length, take, drop, vec_items, vec_len, Vec}
 use Rattle.std.proofs.Common.{sym, subst, arith}
 use Rattle.std.specs.Vec.{with_items}
-use Rattle.std.specs.List.{AllByRecursion as All}
+use Rattle.std.specs.List.{AllByRecursion}
 use Rattle.std.proofs.lemmas.List.{with_items_is}
 use Rattle.std.proofs.ByRecursion.{All-get_or, All-from_get_or}
 use Rattle.line.specs.Lines.{Line, is_line}
@@ -12,7 +12,7 @@ use Rattle.gap_store.specs.Gaps.{gap_limit, gap_lines, Held, Holds, Sound}
 use Rattle.gap_store.specs.declared.gap.Gap.{Gap}
 use Rattle.gap_store.specs.GapsLemmas.{length_lines, sound_from, read_back, fore_packed, aft_packed, used}
 
-pub held_all : (g : Gap) (bytes : List ℕ) → Held g bytes → All (λ (l : Line). is_line l ≡ true) (gap_lines g bytes)
+pub held_all : (g : Gap) (bytes : List ℕ) → Held g bytes → AllByRecursion (λ (l : Line). is_line l ≡ true) (gap_lines g bytes)
 held_all g bytes h =
     All-from_get_or _ (gap_lines g bytes) [] (λ i k. h i (omega (arith, length_lines g bytes)))
 
@@ -51,7 +51,7 @@ module _ {Z : Type 0} (v : Vec ℕ Z) (r : Gap) (ws : List ℕ) (long : length w
   now_lines = read_back new r (vec_items (with_items v ws)) now_holds
 
   -- what the store keeps
-  pub now_kept : vec_len v ≤ gap_limit → length new ≤ store_limit → All (λ (l : Line). is_line l ≡ true) new
+  pub now_kept : vec_len v ≤ gap_limit → length new ≤ store_limit → AllByRecursion (λ (l : Line). is_line l ≡ true) new
       → (r.front ≤ r.back) × (r.back ≤ vec_len v) × (vec_len v ≤ gap_limit) × (r.before + r.behind ≤ store_limit)
       × Packed r.before (take r.front (vec_items (with_items v ws))) × Packed r.behind (drop r.back (vec_items (with_items v ws))) × Held r (vec_items (with_items v ws))
   now_kept small few all =

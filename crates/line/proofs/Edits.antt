@@ -1,6 +1,6 @@
 -- Which edits a store refuses, by what its code has tested, and that an edited list is one of lines. Assumes nothing.
 use Rattle.std.proofs.Common.{◌≡◌, ℕ, suc, ◌<◌, ◌≤◌, Bool, true, false, cond, not, ◌&&◌, ltb, leb, List, ◌∷◌, length, take, drop, set, is_some, Some, None, Option, sym, refl, ap, ◌∙◌, arith}
-use Rattle.std.specs.List.{insert as inserted, remove as removed, AllByRecursion as All}
+use Rattle.std.specs.List.{insert as inserted, remove as removed, AllByRecursion}
 use Rattle.std.proofs.lemmas.List.{length-set}
 use Rattle.std.proofs.lemmas.List.Edits.{length-insert, length-remove}
 use Rattle.std.proofs.ByRecursion.{All-append, All-set, All-take, All-drop}
@@ -15,7 +15,7 @@ use Rattle.line.proofs.Columns.{fault_or_line}
 use Rattle.line.proofs.Charges.{charges_removed}
 
 abbrev Lines : List Line → Type 0
-Lines = All (λ (l : Line). is_line l ≡ true)
+Lines = AllByRecursion (λ (l : Line). is_line l ≡ true)
 
 -- bytes without a fault are a line
 pub line_from_none : (bytes : List ℕ) → line_fault bytes ≡ None → is_line bytes ≡ true

@@ -1,6 +1,6 @@
 -- A line store, by its list of lines, its capacity and its charge for each line length. Assumes nothing.
 use Rattle.std.specs.Prelude.{◌≡◌, ℕ, ◌+◌, ◌<◌, ◌≤◌, true, cond, ◌&&◌, List, [], ◌∷◌, ◌++◌, length, drop, Some, None, Ok, Err, Option, Result, nat_le, nat_lt, slice_index_or, slice_set}
-use Rattle.std.specs.List.{insert as inserted, remove as removed, AllByRecursion as All}
+use Rattle.std.specs.List.{insert as inserted, remove as removed, AllByRecursion}
 use Rattle.line.specs.declared.fault.StoreFault.{StoreFault}
 use Rattle.line.specs.declared.fault.StoreFault.TheVariants.{NoLine, Full}
 use Rattle.line.specs.Lines.{Line, is_line}
@@ -18,7 +18,7 @@ charges charge (l ∷ ls) = charge (length l) + charges charge ls
 -- what every store keeps
 pub record Kept (lines : List Line) (capacity : ℕ) (charge : ℕ → ℕ) : Type 0 where
   pub few : length lines ≤ store_limit
-  pub each : All (λ (l : Line). is_line l ≡ true) lines
+  pub each : AllByRecursion (λ (l : Line). is_line l ≡ true) lines
   pub within : charges charge lines ≤ capacity
 
 pub data Edit : Type 0 where

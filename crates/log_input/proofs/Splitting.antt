@@ -1,7 +1,7 @@
 -- Splitting an input at its line feeds. Assumes nothing.
 use Rattle.std.proofs.Common.{◌≡◌, ℕ, ◌+◌, ◌-◌, ◌<◌, ◌≤◌, Bool, true, false, cond, eqb, List, [], ◌∷◌, ◌++◌, length, get_or, take, drop, sym, refl, ap, ◌∙◌, subst, append_assoc, arith, ne_eqb, eqb-true}
 use borrow.Author.Tests.{eqb-false}
-use Rattle.std.specs.List.{AllByRecursion as All}
+use Rattle.std.specs.List.{AllByRecursion}
 use Rattle.std.proofs.ByRecursion.{All-more}
 use Rattle.std.proofs.lemmas.List.{take-append-drop, drop-drop, drop_more, append-nil, get_or-drop, length-drop, take_all, take_rest, drop_all}
 use Rattle.log_input.specs.Splits.{line_feed, in_front, split, with_feeds, ended, Unbroken, SplitLaw}
@@ -43,19 +43,19 @@ back (b ∷ c ∷ bs) = go (eqb b line_feed) refl (back (c ∷ bs))
     go true e ih = (λ i. sym (eqb-true b line_feed e) i ∷ ih i)
     go false e ih = front_feeds b (split (c ∷ bs)) (some_line c bs) ∙ ap (λ l. b ∷ l) ih
 
-unbroken : (input : List ℕ) → All Unbroken (split input)
+unbroken : (input : List ℕ) → AllByRecursion Unbroken (split input)
 unbroken [] = tt
 unbroken (b ∷ bs) = go (eqb b line_feed) refl (unbroken bs)
   where
-    fronted : (ls : List (List ℕ)) → (b ≡ line_feed → ⊥) → All Unbroken ls → All Unbroken (in_front b ls)
+    fronted : (ls : List (List ℕ)) → (b ≡ line_feed → ⊥) → AllByRecursion Unbroken ls → AllByRecursion Unbroken (in_front b ls)
     fronted [] n u = ((n, tt), tt)
     fronted (l ∷ ls) n u = ((n, u.0), u.1)
 
-    go : (v : Bool) → eqb b line_feed ≡ v → All Unbroken (split bs) → All Unbroken (cond v ([] ∷ split bs) (in_front b (split bs)))
+    go : (v : Bool) → eqb b line_feed ≡ v → AllByRecursion Unbroken (split bs) → AllByRecursion Unbroken (cond v ([] ∷ split bs) (in_front b (split bs)))
     go true e ih = (tt, ih)
     go false e ih = fronted (split bs) (eqb-false b line_feed e) ih
 
-split_feeds : (ls : List (List ℕ)) → All Unbroken ls → split (with_feeds ls) ≡ ls
+split_feeds : (ls : List (List ℕ)) → AllByRecursion Unbroken ls → split (with_feeds ls) ≡ ls
 split_feeds [] u = refl
 split_feeds (l ∷ ls) u = split_first l (with_feeds ls) u.0 ∙ ap (λ t. l ∷ t) (split_feeds ls u.1)
 

@@ -1,6 +1,6 @@
 -- The lines of an input: a line feed ends a line, and bytes behind the last line feed are a line too. Assumes nothing.
 use Rattle.std.specs.Prelude.{◌≡◌, ℕ, cond, List, [], ◌∷◌, ◌++◌, ◌==◌, ◌≢◌}
-use Rattle.std.specs.List.{AllByRecursion as All}
+use Rattle.std.specs.List.{AllByRecursion}
 
 abbrev pub line_feed : ℕ
 line_feed = 10
@@ -27,11 +27,11 @@ ended (b ∷ c ∷ bs) = b ∷ ended (c ∷ bs)
 
 -- no line holds a line feed
 abbrev pub Unbroken : List ℕ → Type 0
-Unbroken = All (λ b. b ≢ line_feed)
+Unbroken = AllByRecursion (λ b. b ≢ line_feed)
 
 -- the lines with their line feeds give back the input, with a line feed at its end if it had none; no line holds a line feed, and
 -- no other lines do this
 pub record SplitLaw : Type 0 where
   pub back : (input : List ℕ) → with_feeds (split input) ≡ ended input
-  pub unbroken : (input : List ℕ) → All Unbroken (split input)
-  pub only : (input : List ℕ) (ls : List (List ℕ)) → All Unbroken ls → with_feeds ls ≡ ended input → ls ≡ split input
+  pub unbroken : (input : List ℕ) → AllByRecursion Unbroken (split input)
+  pub only : (input : List ℕ) (ls : List (List ℕ)) → AllByRecursion Unbroken ls → with_feeds ls ≡ ended input → ls ≡ split input

@@ -73,7 +73,7 @@ impl PageIndex {
 
     // Fills the index with places and no pages, for the lines of a store.
     pub fn fill<L: LineStore>(&mut self, places: usize, store: &L) -> Result<(), PageSetFault>
-        ensures { FillGives (index_of self.old.table) places (length (lines store.now)) result (index_of self.new.table) }
+        ensures { FillGives (index_of self.old.table) places (length (L.lines store.now)) result (index_of self.new.table) }
     {
         if places % 2 != 0 || places < 2 || places > MOST_PLACES {
             return Err(PageSetFault::BadPlaces { places });

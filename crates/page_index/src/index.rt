@@ -1,6 +1,6 @@
-ghost use Rattle.std.specs.Prelude.{◌≡◌, ◌++◌};
-ghost use Rattle.page_table.specs.Indexes.{index_of, way_of, held};
-ghost use Rattle.page_table.specs.Sound.{Stored, Sized, FollowFrom, Filled, FewRows, Within, Apart, Counted, Bounded, Untouched, Touched, Between, Numbered, Restarted, Kept};
+ghost use Rattle.std.specs.Prelude.{◌≡◌};
+ghost use Rattle.page_table.specs.Indexes.{index_of, way_of};
+ghost use Rattle.page_table.specs.Sound.{Stored, Sound};
 ghost use Rattle.page_table.specs.Changes.{unfilled};
 
 use page_rule::Marks;
@@ -11,22 +11,7 @@ use page_table::{MOST_PAGES, Numbers, PageEntry, PageTable, Phase, Way};
 pub struct PageIndex {
     pub(super) table: PageTable,
     ghost stored: { Stored table },
-    ghost sized: { Sized (index_of table) },
-    ghost follow: { FollowFrom 0 (index_of table).pages },
-    ghost whole: { held (index_of table).pages ≡ table.numbers.items_then },
-    ghost filled: { Filled ((index_of table).pages ++ (index_of table).made) },
-    ghost few: { FewRows ((index_of table).pages ++ (index_of table).made) },
-    ghost within: { Within table.places ((index_of table).pages ++ (index_of table).made) },
-    ghost apart: { Apart ((index_of table).pages ++ (index_of table).made) },
-    ghost counted: { Counted (index_of table) },
-    ghost bounded: { Bounded (index_of table) },
-    ghost untouched: { Untouched (index_of table) },
-    ghost touched: { Touched (index_of table) },
-    ghost between: { Between (index_of table) },
-    ghost numbered: { Numbered (index_of table) },
-    ghost onward: { FollowFrom (way_of table.phase).start (index_of table).made },
-    ghost restarted: { Restarted (index_of table) },
-    ghost kept: { Kept (index_of table) },
+    ghost sound: { Sound (index_of table) },
 }
 
 const BLANK: PageEntry = PageEntry {

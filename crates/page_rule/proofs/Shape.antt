@@ -1,6 +1,6 @@
 -- The shape of a formatting, of an engine whose rows are few and wide. Assumes nothing.
 use Rattle.std.proofs.Common.{◌≡◌, ℕ, suc, ◌+◌, ◌≤◌, true, List, [], ◌++◌, length, drop, refl, subst, arith, length-append, length-drop, leb-false, leb-true}
-use Rattle.std.specs.List.{AllByRecursion as All}
+use Rattle.std.specs.List.{AllByRecursion}
 use Rattle.std.proofs.ByRecursion.{All-append}
 use Rattle.line.specs.Lines.{Line}
 use Rattle.engine.specs.Model.{Row, row_width, step_rows, Model, Stepped.goes, Sized, SizedStep}
@@ -15,7 +15,7 @@ use Rattle.page_rule.proofs.Bodies.{body_size}
 -- rows for which a body has room, each as wide as a row is
 record Fitting (rows : List Row) : Type 0 where
   few : length rows ≤ page_rows
-  wide : All (λ (r : Row). length r ≡ row_width) rows
+  wide : AllByRecursion (λ (r : Row). length r ≡ row_width) rows
 
 added : (rows more : List Row) → Fitting rows → Sized more → fits rows more ≡ true → Fitting (rows ++ more)
 added rows more f s h = record {

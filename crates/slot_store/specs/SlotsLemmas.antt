@@ -1,7 +1,7 @@
 -- The lines in slots, one by one. Assumes nothing.
 use Rattle.std.specs.Prelude.{◌≡◌, ℕ, zero, suc, ◌+◌, ◌*◌, ◌<◌, ◌≤◌, true, List, [], length, get_or, take, drop, slice_index, slice_index_or, refl}
 use Rattle.std.proofs.Common.{ap, ◌∙◌, arith}
-use Rattle.std.specs.List.{AllByRecursion as All}
+use Rattle.std.specs.List.{AllByRecursion}
 use Rattle.std.proofs.lemmas.List.{drop-drop, drop-take, take-take, length-take, length-drop, get_or-take, get_or-drop}
 use Rattle.std.proofs.ByRecursion.{All-get_or, All-from_get_or}
 use Rattle.line.specs.Lines.{Line, line_limit, is_line}
@@ -21,12 +21,12 @@ get_or_slots (suc n) bytes (suc i) h =
     get_or_slots n (drop slot_size bytes) i (omega arith)
     ∙ ap (λ (xs : List ℕ). slot_line (take slot_size xs)) (drop-drop (slot_size * i) slot_size bytes ∙ ap (λ (k : ℕ). drop k bytes) e)
 
-pub held_all : (n : ℕ) (bytes : List ℕ) → Held n bytes → All (λ (l : Line). is_line l ≡ true) (slots_of n bytes)
+pub held_all : (n : ℕ) (bytes : List ℕ) → Held n bytes → AllByRecursion (λ (l : Line). is_line l ≡ true) (slots_of n bytes)
 held_all n bytes h =
     All-from_get_or _ (slots_of n bytes) []
     (λ i l. let k : i < n = omega (arith, length_slots n bytes) in rw (get_or_slots n bytes i k) (h i k))
 
-pub all_held : (n : ℕ) (bytes : List ℕ) → All (λ (l : Line). is_line l ≡ true) (slots_of n bytes) → Held n bytes
+pub all_held : (n : ℕ) (bytes : List ℕ) → AllByRecursion (λ (l : Line). is_line l ≡ true) (slots_of n bytes) → Held n bytes
 all_held n bytes all i h =
     rw (get_or_slots n bytes i h) at (All-get_or (λ (l : Line). is_line l ≡ true) (slots_of n bytes) i [] (omega (arith, length_slots n bytes)) all)
 

@@ -1,7 +1,7 @@
 -- The lines of edited records. Assumes nothing.
 use Rattle.std.specs.Prelude.{◌≡◌, ◌≤◌, ℕ, suc, true, List, [], ◌∷◌, ◌++◌, length, take, drop, slice_set, vec_items, vec_len, Vec}
 use Rattle.std.proofs.Common.{sym, ap, ◌∙◌, arith}
-use Rattle.std.specs.List.{insert, remove, AllByRecursion as All}
+use Rattle.std.specs.List.{insert, remove, AllByRecursion}
 use Rattle.std.proofs.lemmas.List.{length-map, map-append, map-set, take-map, drop-map}
 use Rattle.line.specs.Lines.{Line, is_line}
 use Rattle.line.specs.Stores.{charges, store_limit, Kept}
@@ -16,7 +16,7 @@ pub charged : (rs : List LineRecord) → charges (λ _. 1) (record_lines rs) ≡
 charged rs = charges_one (record_lines rs) ∙ length_lines rs
 
 -- a record holds a line
-pub all_lines : (rs : List LineRecord) → All (λ (l : Line). is_line l ≡ true) (record_lines rs)
+pub all_lines : (rs : List LineRecord) → AllByRecursion (λ (l : Line). is_line l ≡ true) (record_lines rs)
 all_lines [] = tt
 all_lines (r ∷ rs) = (r.good, all_lines rs)
 

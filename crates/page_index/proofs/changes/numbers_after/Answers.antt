@@ -13,19 +13,19 @@ returns-else-at-lines c line =
     let few = c.requires.few in
     let left = c.if-at-lines.false in
     rw c.in-Replace.is (
-      same_numbers _ _ _ _ _ (omega arith) (c.after-replace.ensures line),
+      same_numbers _ _ _ _ _ (omega arith) (c.after_replace.ensures line),
       rw (lt-ltb c.in-Replace.at (c.args.numbers.items_now - 1) (omega arith)) refl,
       omega arith,
     )
 
-pub returns-else-lines-ge-STORE-LIMIT : goal.returns-else-lines-ge-STORE-LIMIT
-returns-else-lines-ge-STORE-LIMIT c line =
+pub returns-else-lines-ge-STORE_LIMIT : goal.returns-else-lines-ge-STORE_LIMIT
+returns-else-lines-ge-STORE_LIMIT c line =
     let some = c.requires.some in
     let few = c.requires.few in
     let left = c.if-at-lines-2.false in
-    let room = c.if-lines-ge-STORE-LIMIT.false in
+    let room = c.if-lines-ge-STORE_LIMIT.false in
     rw c.in-Insert.is (
-      same_numbers _ _ _ _ _ (omega arith) (c.after-insert.ensures line),
+      same_numbers _ _ _ _ _ (omega arith) (c.after_insert.ensures line),
       rw (le-leb c.in-Insert.at (c.args.numbers.items_now - 1) (omega arith)) refl,
       omega arith,
     )

@@ -2,11 +2,14 @@ use Rattle.std.proofs.Common.{refl, arith}
 use Rattle.page_table.specs.declared.state.Phase.TheVariants.{Edited, Resumed}
 use Rattle.page_table.specs.Indexes.{index_of}
 use Rattle.page_table.proofs.Changing.{sound_stays, resumed_settled}
-use Rattle.page_index.proofs.Sounds.{parts, with_phase, in_state}
+use Rattle.page_index.proofs.Sounds.{with_phase, in_state}
 use Rattle.page_index.proofs.index.PageIndex.abandon.Goals as goal
 
-pub invariant-of-self : goal.invariant-of-self
-invariant-of-self c =
+pub invariant_of-self : goal.invariant_of-self
+invariant_of-self c =
     let x = c.args.self.now in
-    let t = with_phase x.table (Resumed c.in-Resumed.-way) in
-    parts (with_phase x.table Edited) (x.stored.0, omega arith) (sound_stays (index_of t) (in_state x (Resumed c.in-Resumed.-way) c.in-Resumed.is) (resumed_settled c.in-Resumed.-way))
+    let t = with_phase x.table (Resumed c.in-Resumed._way) in
+    record {
+      stored = (x.stored.0, omega arith);
+      sound = sound_stays (index_of t) (in_state x (Resumed c.in-Resumed._way) c.in-Resumed.is) (resumed_settled c.in-Resumed._way);
+    }

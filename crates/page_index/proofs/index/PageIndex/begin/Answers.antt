@@ -6,7 +6,6 @@ use Rattle.page_table.specs.Indexes.{Index, index_of}
 use Rattle.page_table.specs.Sound.{Sound}
 use Rattle.page_table.specs.Changes.{Begins, Begins.at_start, Begins.at_page, in_phase}
 use Rattle.page_table.proofs.Changing.{sound_begun}
-use Rattle.page_index.proofs.Sounds.{parts, with_phase, sound_of}
 use Rattle.page_index.proofs.index.PageIndex.begin.Goals as goal
 
 none_made : {i : Index} {way : Way} → Begins i way → way.made ≡ 0
@@ -16,17 +15,19 @@ none_made (at_page some holds) = refl
 none_taken : {i : Index} {way : Way} (made : List PageEntry) → Begins i way → take way.made made ≡ []
 none_taken made begins = ap (λ n. take n made) (none_made begins)
 
-pub invariant-of-self : goal.invariant-of-self
-invariant-of-self c =
+pub invariant_of-self : goal.invariant_of-self
+invariant_of-self c =
     let x = c.args.self.now in
-    let way = c.restart-way-way.result in
-    let none = none_made c.restart-way-way.ensures in
-    parts (with_phase x.table (Resumed way)) (x.stored.0, omega arith)
-    (subst (λ (ms : List PageEntry). Sound (in_phase (index_of x.table) (Resumed way) ms)) (sym (none_taken x.table.made c.restart-way-way.ensures))
-    (sound_begun (index_of x.table) way (sound_of x) c.in-Edited.is c.restart-way-way.ensures))
+    let way = c.restart_way-way.result in
+    let none = none_made c.restart_way-way.ensures in
+    record {
+      stored = (x.stored.0, omega arith);
+      sound = subst (λ (ms : List PageEntry). Sound (in_phase (index_of x.table) (Resumed way) ms)) (sym (none_taken x.table.made c.restart_way-way.ensures))
+          (sound_begun (index_of x.table) way x.sound c.in-Edited.is c.restart_way-way.ensures);
+    }
 
 pub returns : goal.returns
 returns c =
     let x = c.args.self.now in
-    let way = c.restart-way-way.result in
-    (c.in-Edited.is, c.restart-way-way.ensures, ap (λ (ms : List PageEntry). in_phase (index_of x.table) (Resumed way) ms) (none_taken x.table.made c.restart-way-way.ensures))
+    let way = c.restart_way-way.result in
+    (c.in-Edited.is, c.restart_way-way.ensures, ap (λ (ms : List PageEntry). in_phase (index_of x.table) (Resumed way) ms) (none_taken x.table.made c.restart_way-way.ensures))

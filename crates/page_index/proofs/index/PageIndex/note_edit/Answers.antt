@@ -6,16 +6,18 @@ use Rattle.page_table.specs.Sound.{Sound}
 use Rattle.page_table.specs.Changes.{TakesEdit, numbers_after}
 use Rattle.page_table.proofs.Editing.{sound_edited}
 use Rattle.page_index.specs.Promise.{edit_of}
-use Rattle.page_index.proofs.Sounds.{later_parts, with_numbers, sound_of}
+use Rattle.page_index.proofs.Sounds.{with_numbers}
 use Rattle.page_index.proofs.index.PageIndex.note_edit.Goals as goal
 
-pub invariant-of-self : goal.invariant-of-self
-invariant-of-self c =
+pub invariant_of-self : goal.invariant_of-self
+invariant_of-self c =
     let x = c.args.self.now in
     let i = index_of x.table in
     let made = c.in-Some.ensures [] in
     let takes : TakesEdit i (edit_of c.args.edit []) =
-    record { state = c.if-not-takes-edits.ensures.0 refl; there = made.1; room = made.2 }
+    record { state = c.if-not-takes_edits.ensures.0 refl; there = made.1; room = made.2 }
     in
-    later_parts (with_numbers x.table c.in-Some.numbers Edited) (x.stored.0, omega arith)
-    (subst (λ (n : Numbers). Sound (index_of (with_numbers x.table n Edited))) (sym made.0) (sound_edited i (edit_of c.args.edit []) (sound_of x) takes))
+    record {
+      stored = (x.stored.0, omega arith);
+      sound = subst (λ (n : Numbers). Sound (index_of (with_numbers x.table n Edited))) (sym made.0) (sound_edited i (edit_of c.args.edit []) x.sound takes);
+    }

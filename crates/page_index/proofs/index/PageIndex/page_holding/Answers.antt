@@ -22,18 +22,18 @@ ends_within t k follow h l =
     let m = held_mono (suc k) t.count (index_of t).pages (omega arith) in
     (first_is (index_of t).pages k (get_or t.pages k blank) follow there, e, omega arith)
 
-pub overflow-add-page : goal.overflow-add-page
-overflow-add-page c =
+pub overflow_add-page : goal.overflow_add-page
+overflow_add-page c =
     let x = c.args.self.now in
-    let e = ends_within x.table c.loop-number.number x.follow (omega arith) (omega arith) in
-    let w = x.whole in
-    let n = x.counted.2 in
+    let e = ends_within x.table c.loop-number.number x.sound.follow (omega arith) (omega arith) in
+    let w = x.sound.whole in
+    let n = x.sound.counted.2 in
     omega (arith, e.2)
 
 pub returns-then-item-page : goal.returns-then-item-page
 returns-then-item-page c =
     let x = c.args.self.now in
-    let e = ends_within x.table c.loop-number.number x.follow (omega arith) (omega arith) in
+    let e = ends_within x.table c.loop-number.number x.sound.follow (omega arith) (omega arith) in
     record {
       there = nth_front x.table.count x.table.pages c.loop-number.number _ (omega arith) (omega arith);
       from = omega (arith, e.0, c.loop-number.invariant);
@@ -43,7 +43,7 @@ returns-then-item-page c =
 pub loop-number-preserved : goal.loop-number-preserved
 loop-number-preserved c =
     let x = c.args.self.now in
-    let e = ends_within x.table c.loop-number.number x.follow (omega arith) (omega arith) in
+    let e = ends_within x.table c.loop-number.number x.sound.follow (omega arith) (omega arith) in
     let s : held (take (c.loop-number.number + 1) (index_of x.table).pages) ≡ held (take (suc c.loop-number.number) (index_of x.table).pages) =
     ap (λ (n : ℕ). held (take n (index_of x.table).pages)) (let h : c.loop-number.number + 1 ≡ suc c.loop-number.number = omega arith in h)
     in
@@ -53,7 +53,7 @@ pub returns : goal.returns
 returns c =
     let x = c.args.self.now in
     λ k p holds.
-    let e = end_is (index_of x.table).pages k p x.follow holds.there in
+    let e = end_is (index_of x.table).pages k p x.sound.follow holds.there in
     let w = nth_within (index_of x.table).pages k p holds.there in
     let n = simp length-take at w in
     let m = held_mono (suc k) c.loop-number.number (index_of x.table).pages (omega arith) in

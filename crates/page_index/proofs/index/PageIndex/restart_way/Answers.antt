@@ -6,7 +6,6 @@ use Rattle.page_table.specs.Sound.{Sound}
 use Rattle.page_table.specs.Changes.{Begins, Begins.at_start, Begins.at_page}
 use Rattle.page_table.proofs.Held.{holder}
 use Rattle.page_table.proofs.Changing.{head_held}
-use Rattle.page_index.proofs.Sounds.{sound_of}
 use Rattle.page_index.proofs.index.PageIndex.restart_way.Goals as goal
 
 pub returns-then-head-eq0 : goal.returns-then-head-eq0
@@ -16,8 +15,8 @@ pub returns-in-None : goal.returns-in-None
 returns-in-None c =
     let x = c.args.self.now in
     let i = index_of x.table in
-    let h = head_held i (sound_of x) in
-    let found = holder 0 (x.table.numbers.marks.head - 1) i.pages x.follow (omega arith) (omega (arith, c.if-head-eq0.false)) in
+    let h = head_held i (x.sound) in
+    let found = holder 0 (x.table.numbers.marks.head - 1) i.pages x.sound.follow (omega arith) (omega (arith, c.if-head-eq0.false)) in
     absurd (c.in-None.ensures found.0 found.1 found.2)
 
 pub returns-in-Some : goal.returns-in-Some
