@@ -1,7 +1,7 @@
 -- Places that are marked as used, and the lowest that is not.
-use Rattle.std.proofs.Common.{◌≡◌, ℕ, ◌+◌, ◌-◌, ◌<◌, ◌≤◌, Bool, true, false, ◌||◌, ltb, List, ◌++◌, get_or, take, is_some, Some, None, Option, sym, refl, ap, ◌∙◌, arith, MatchOption}
+use Rattle.std.proofs.Common.{◌≡◌, ℕ, ◌+◌, ◌-◌, ◌<◌, ◌≤◌, Bool, true, false, ◌||◌, ltb, List, ◌++◌, get_or, take, is_some, not, ◌&&◌, Decides, Some, None, Option, sym, refl, ap, ◌∙◌, arith, MatchOption}
 use borrow.Rule.Slice.PartMut.{mid_of}
-use Rattle.std.proofs.lemmas.Bool.{ltb-false, ltb-true, lt-ltb, le-ltb, true≢false, cases_lt}
+use Rattle.std.proofs.lemmas.Bool.{ltb-false, ltb-true}
 use Rattle.std.proofs.lemmas.Bool.Decides.{nat_tests}
 use Rattle.page_table.specs.declared.entry.PageEntry.{PageEntry}
 use Rattle.page_table.specs.Indexes.{Index, users}
@@ -45,3 +45,12 @@ front_is n xs = ap (λ (k : ℕ). take k xs) (let e : n - 0 ≡ n = omega arith 
 -- one more page marked
 pub or_used : (b : Bool) (m n : ℕ) → (m ≡ n) → (b || ltb 0 m) ≡ (b || ltb 0 n)
 or_used b m n e = ap (λ (k : ℕ). b || ltb 0 k) e
+
+-- a place is free exactly if it is one of the N, and neither of a page that stands nor of one under way
+pub free_test : (i : Index) (x : ℕ) (stands under : Bool) → stands ≡ ltb 0 (users i.pages x) → under ≡ ltb 0 (users i.made x)
+    → Decides ((ltb x i.places && not stands) && not under) (Free i x)
+free_test i x stands under s u =
+    let n = users_append i.pages i.made x in (
+      (λ h. record { within = grind (arith, nat_tests); unused = grind (arith, nat_tests) }),
+      (λ free. let w = free.within in let v = free.unused in grind (arith, nat_tests)),
+    )

@@ -1,2 +1,3 @@
 mod Sounds
 mod Frees
+mod TakenOver

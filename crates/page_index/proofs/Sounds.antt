@@ -1,12 +1,16 @@
 -- Tables that differ from one in the state of the session or in its numbers, and what an index whose state is known keeps.
-use Rattle.std.proofs.Common.{◌≡◌, subst}
+use Rattle.std.proofs.Common.{◌≡◌, ℕ, ◌+◌, ◌<◌, List, length, set, sym, ap, subst}
+use Rattle.std.proofs.lemmas.List.{take_more_set}
+use Rattle.page_table.specs.declared.entry.PageEntry.{PageEntry}
 use Rattle.page_table.specs.declared.state.Numbers.{Numbers}
 use Rattle.page_table.specs.declared.state.Way.{Way}
 use Rattle.page_table.specs.declared.state.Phase.{Phase}
 use Rattle.page_table.specs.declared.state.Phase.TheVariants.{Resumed}
 use Rattle.page_table.specs.declared.table.PageTable.{PageTable}
-use Rattle.page_table.specs.Indexes.{index_of}
+use Rattle.page_table.specs.Indexes.{index_of, way_of}
 use Rattle.page_table.specs.Sound.{Stored, Sound}
+use Rattle.page_table.specs.Changes.{in_phase, next_page, gone_on, added, Admits}
+use Rattle.page_table.proofs.Changing.{sound_added}
 use Rattle.page_index.specs.declared.index.PageIndex.{PageIndex}
 
 -- the table in another state of the session
@@ -22,3 +26,19 @@ in_state x phase e = subst (λ (p : Phase). Sound (index_of (with_phase x.table 
 
 pub stored_in : (x : PageIndex) (phase : Phase) → x.table.phase ≡ phase → Stored (with_phase x.table phase)
 stored_in x phase e = subst (λ (p : Phase). Stored (with_phase x.table p)) e x.stored
+
+-- one page more under way
+abbrev pub with_page : PageTable → Way → ℕ → ℕ → ℕ → PageTable
+with_page t way items rows place =
+    record { places = t.places; count = t.count; pages = t.pages; made = set t.made way.made (next_page way items rows place); numbers = t.numbers; phase = Resumed (gone_on way items) }
+
+module _ (x : PageIndex) (items rows place : ℕ) (room : (way_of x.table.phase).made < length x.table.made) where
+  pub page_is : index_of (with_page x.table (way_of x.table.phase) items rows place) ≡ added (index_of x.table) (way_of x.table.phase) items rows place
+  page_is =
+      ap (λ (ms : List PageEntry). in_phase (index_of x.table) (Resumed (gone_on (way_of x.table.phase) items)) ms)
+      (take_more_set x.table.made (way_of x.table.phase).made (next_page (way_of x.table.phase) items rows place) room)
+
+  pub sound_more : Admits (index_of x.table) (way_of x.table.phase) items rows place → (way_of x.table.phase).next + items < x.table.numbers.items_now
+      → Sound (index_of (with_page x.table (way_of x.table.phase) items rows place))
+  sound_more may short =
+      subst Sound (sym page_is) (sound_added (index_of x.table) (way_of x.table.phase) x.sound may.resumed items rows place may short)

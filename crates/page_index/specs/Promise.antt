@@ -1,5 +1,5 @@
 -- What the calls of an index answer and leave. Assumes nothing.
-use Rattle.std.specs.Prelude.{◌≡◌, ℕ, ◌+◌, ◌<◌, ◌≤◌, List, [], ◌∷◌, ◌++◌, length, Some, None, Ok, Err, Option, Result, ◌≢◌}
+use Rattle.std.specs.Prelude.{◌≡◌, ℕ, ◌+◌, ◌<◌, ◌≤◌, List, [], length, Some, None, Ok, Err, Option, Result, ◌≢◌}
 use Rattle.std.specs.List.{slice_get}
 use Rattle.line.specs.Stores.{Edit, Edit.replace, Edit.insert, Edit.remove}
 use Rattle.page_table.specs.declared.entry.PageEntry.{PageEntry}

@@ -1,9 +1,9 @@
-ghost use Rattle.std.specs.Prelude.{◌≡◌, ◌+◌, ◌-◌, ◌<◌, ◌≤◌, length, take, Decides};
+ghost use Rattle.std.specs.Prelude.{◌≡◌, ◌+◌, ◌-◌, ◌<◌, ◌≤◌, length, take, drop, Decides};
 ghost use Rattle.page_table.specs.Indexes.{index_of, way_of};
 ghost use Rattle.page_table.specs.Free.{Free};
 ghost use Rattle.std.proofs.Math.Seq.{paste};
 ghost use Rattle.page_table.specs.Settled.{settled};
-ghost use Rattle.page_index.specs.Tables.{Movable, taken_over, with_made, with_pages};
+ghost use Rattle.page_index.specs.Tables.{Movable, taken_over};
 ghost use Rattle.page_table.specs.Changes.{Admits, added, next_page, TakesOver};
 ghost use Rattle.page_index.specs.Promise.{ChangeGives, Adds, Finishes};
 
@@ -11,56 +11,64 @@ use super::fault::PageSetFault;
 use super::index::PageIndex;
 use super::places::has_place;
 use page_rule::{Marks, PAGE_ROWS};
-use page_table::{Numbers, PageEntry, PageTable, Phase, Way};
+use page_table::{MOST_PAGES, Numbers, PageEntry, PageTable, Phase, Way};
 
-// The pages from `over` on, with their first items moved as the end has moved, behind the first `made` pages under way.
-fn move_taken(table: &mut PageTable, made: usize, over: usize)
-    requires over { over ≤ table.old.count }
-    requires count { table.old.count ≤ length table.old.pages }
-    requires more { made + (table.old.count - over) ≤ length table.old.made }
-    requires first { Movable table.old over }
-    ensures { table.new ≡ with_made table.old (paste table.old.made made (taken_over table.old over) (table.old.count - over)) }
+// The pages from `over` on, of so many, with their first items moved as the end has moved, behind the first `made` pages under way.
+fn move_taken(
+    under_way: &mut [PageEntry],
+    made: usize,
+    pages: &[PageEntry],
+    over: usize,
+    count: usize,
+    numbers: Numbers,
+)
+    requires over { over ≤ count }
+    requires count { count ≤ length pages.now }
+    requires room { made + (count - over) ≤ length under_way.old }
+    requires first { Movable numbers (drop over (take count pages.now)) }
+    ensures { under_way.new ≡ paste under_way.old made (taken_over numbers (drop over (take count pages.now))) (count - over) }
 {
-    let count = table.count;
-    let items_now = table.numbers.items_now;
-    let items_then = table.numbers.items_then;
-    for k in 0..count - over {
-        let entry = table.pages[over + k];
-        table.made[made + k] = PageEntry {
-            first: entry.first + items_now - items_then,
-            items: entry.items,
-            rows: entry.rows,
-            place: entry.place,
+    for k in over..count {
+        let page = pages[k];
+        under_way[made + (k - over)] = PageEntry {
+            first: page.first + numbers.items_now - numbers.items_then,
+            items: page.items,
+            rows: page.rows,
+            place: page.place,
         };
     }
 }
 
 // The first `all` pages under way, from page number `restart` on.
-fn put_made(table: &mut PageTable, restart: usize, all: usize)
-    requires room { restart + all ≤ length table.old.pages }
-    requires there { all ≤ length table.old.made }
-    ensures { table.new ≡ with_pages table.old (paste table.old.pages restart table.old.made all) }
+fn put_made(pages: &mut [PageEntry], restart: usize, under_way: &[PageEntry], all: usize)
+    requires room { restart + all ≤ length pages.old }
+    requires there { all ≤ length under_way.now }
+    ensures { pages.new ≡ paste pages.old restart under_way.now all }
 {
-    for k in 0..all {
-        table.pages[restart + k] = table.made[k];
-    }
+    pages[restart..restart + all].copy_from_slice(&under_way[0..all]);
 }
 
 // The first `made` pages under way, and the pages from `over` on, take the place of the pages from the restart page on.
 fn settle_table(table: &mut PageTable, restart: usize, made: usize, over: usize)
     requires restart { restart ≡ (way_of table.old.phase).restart }
     requires over { over ≤ table.old.count }
-    requires count { table.old.count ≤ length table.old.pages }
+    requires count { table.old.count ≤ MOST_PAGES }
     requires front { restart ≤ table.old.count }
-    requires room { restart + made + (table.old.count - over) ≤ length table.old.pages }
-    requires more { made + (table.old.count - over) ≤ length table.old.made }
-    requires first { Movable table.old over }
+    requires room { restart + made + (table.old.count - over) ≤ MOST_PAGES }
+    requires first { Movable table.old.numbers (drop over (index_of table.old).pages) }
     ensures index { index_of table.new ≡ settled (index_of table.old) (take made table.old.made) over }
     ensures stored { table.new.count ≤ length table.new.pages }
 {
     let all = made + (table.count - over);
-    move_taken(table, made, over);
-    put_made(table, restart, all);
+    move_taken(
+        &mut table.made,
+        made,
+        &table.pages,
+        over,
+        table.count,
+        table.numbers,
+    );
+    put_made(&mut table.pages, restart, &table.made, all);
     let items_now = table.numbers.items_now;
     table.count = restart + all;
     table.numbers = Numbers {
@@ -78,9 +86,9 @@ impl PageIndex {
     {
         let count = self.table.count;
         let made = self.way().made;
-        place < self.table.places
-            && !has_place(&self.table.pages[0..count], place)
-            && !has_place(&self.table.made[0..made], place)
+        let stands = has_place(&self.table.pages[0..count], place);
+        let under_way = has_place(&self.table.made[0..made], place);
+        (place < self.table.places) & !stands & !under_way
     }
 
     // Whether a page may be made next.

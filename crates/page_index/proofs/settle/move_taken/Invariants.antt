@@ -1,7 +1,8 @@
-use Rattle.std.proofs.Common.{◌≡◌, ◌-◌}
-use lib.Seq.{paste}
-use Rattle.page_index.specs.Tables.{with_made, taken_over}
+use Rattle.std.proofs.Common.{◌≡◌, ◌-◌, take, drop}
+use Rattle.std.proofs.Math.Seq.{paste}
+use Rattle.page_index.specs.Tables.{taken_over}
 use Rattle.page_index.proofs.settle.move_taken.Given as goal
 
+-- so many are taken over
 abbrev pub invariant-loop-k : goal.invariant-loop-k
-invariant-loop-k l = l.table ≡ with_made l.initial.table (paste l.initial.table.made l.made (taken_over l.initial.table l.over) l.k)
+invariant-loop-k l = l.under_way ≡ paste l.initial.under_way l.made (taken_over l.numbers (drop l.over (take l.count l.pages))) (l.k - l.over)

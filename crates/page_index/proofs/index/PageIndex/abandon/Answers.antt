@@ -1,5 +1,5 @@
-use Rattle.std.proofs.Common.{refl, arith}
-use Rattle.page_table.specs.declared.state.Phase.TheVariants.{Edited, Resumed}
+use Rattle.std.proofs.Common.{arith}
+use Rattle.page_table.specs.declared.state.Phase.TheVariants.{Resumed}
 use Rattle.page_table.specs.Indexes.{index_of}
 use Rattle.page_table.proofs.Changing.{sound_stays, resumed_settled}
 use Rattle.page_index.proofs.Sounds.{with_phase, in_state}

@@ -1,6 +1,6 @@
 use Rattle.std.proofs.Common.{◌≡◌, List, [], take, sym, refl, ap, subst, arith}
 use Rattle.page_table.specs.declared.entry.PageEntry.{PageEntry}
-use Rattle.page_table.specs.declared.state.Phase.TheVariants.{Edited, Resumed}
+use Rattle.page_table.specs.declared.state.Phase.TheVariants.{Resumed}
 use Rattle.page_table.specs.declared.state.Way.{Way}
 use Rattle.page_table.specs.Indexes.{Index, index_of}
 use Rattle.page_table.specs.Sound.{Sound}

@@ -1,7 +1,6 @@
 use Rattle.std.proofs.Common.{refl, arith}
 use Rattle.page_table.specs.declared.state.Phase.TheVariants.{Resumed}
 use Rattle.page_table.specs.Indexes.{index_of}
-use Rattle.page_table.specs.Changes.{kept_at}
 use Rattle.page_table.proofs.Changing.{sound_kept}
 use Rattle.page_index.proofs.Sounds.{with_phase, in_state, stored_in}
 use Rattle.page_index.proofs.index.PageIndex.keep_state.Goals as goal

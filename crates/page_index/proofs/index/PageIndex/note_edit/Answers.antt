@@ -1,9 +1,9 @@
-use Rattle.std.proofs.Common.{◌≡◌, List, [], sym, refl, subst, arith}
+use Rattle.std.proofs.Common.{[], sym, refl, subst, arith}
 use Rattle.page_table.specs.declared.state.Numbers.{Numbers}
 use Rattle.page_table.specs.declared.state.Phase.TheVariants.{Edited}
 use Rattle.page_table.specs.Indexes.{index_of}
 use Rattle.page_table.specs.Sound.{Sound}
-use Rattle.page_table.specs.Changes.{TakesEdit, numbers_after}
+use Rattle.page_table.specs.Changes.{TakesEdit}
 use Rattle.page_table.proofs.Editing.{sound_edited}
 use Rattle.page_index.specs.Promise.{edit_of}
 use Rattle.page_index.proofs.Sounds.{with_numbers}

@@ -1,9 +1,6 @@
-use Rattle.std.proofs.Common.{◌≡◌, ℕ, ◌-◌, ◌<◌, ◌≤◌, sym, refl, ◌∙◌, inl, inr, arith}
-use Rattle.page_table.specs.declared.state.Phase.{Phase}
-use Rattle.page_table.specs.declared.state.Phase.TheVariants.{Unfilled, Edited, Resumed, Settled}
-use Rattle.page_table.specs.Indexes.{Index, index_of, held}
-use Rattle.page_table.specs.Sound.{Sound}
-use Rattle.page_table.specs.Changes.{Begins, Begins.at_start, Begins.at_page}
+use Rattle.std.proofs.Common.{◌-◌, inl, arith}
+use Rattle.page_table.specs.Indexes.{index_of}
+use Rattle.page_table.specs.Changes.{Begins.at_start, Begins.at_page}
 use Rattle.page_table.proofs.Held.{holder}
 use Rattle.page_table.proofs.Changing.{head_held}
 use Rattle.page_index.proofs.index.PageIndex.restart_way.Goals as goal
