@@ -9,7 +9,7 @@ use Rattle.page_rule.specs.Pages.{Page}
 use Rattle.page_rule.specs.Filling.{fill}
 use Rattle.page_rule.specs.Formatting.{Ending.complete, Ending.too_many_pages, Formatted, no_page, onto, page, pages_from, formatted}
 use Rattle.page_rule.specs.Moving.{Moves, moved_item, moved}
-use Rattle.page_rule.specs.Tail.{replayed, Same-pages, Alike, TailLaw}
+use Rattle.page_rule.specs.Tail.{replayed, SamePages, Alike, TailLaw}
 use Rattle.page_rule.proofs.Views.{Paged, paged, from_last, from_full}
 use Rattle.page_rule.proofs.Head.{head_law}
 
@@ -48,7 +48,7 @@ module _ {M : Type 0} (from to : ℕ) where
 
 from_item : {M : Type 0} (e : Model M) (limit q j more r i from to : ℕ) (s t : M) (old now : List Line)
     → q ≤ limit → Alike from to i j s t → drop j now ≡ drop i old → (pages_from e more r i s old).ending ≡ complete
-    → Same-pages limit q from to (pages_from e more r i s old).pages (pages_from e (limit - q) q j t now)
+    → SamePages limit q from to (pages_from e more r i s old).pages (pages_from e (limit - q) q j t now)
 from_item e limit q j more r i from to s t old now l a d c =
     let ps = (pages_from e more r i s old).pages in
     let is =
@@ -66,7 +66,7 @@ from_item e limit q j more r i from to s t old now l a d c =
 from_page : {M : Type 0} (e : Model M) (limit q j k from to : ℕ) (t : M) (old now : List Line) (p : Page M)
     → q ≤ limit → (formatted e limit old).ending ≡ complete → slice_get (formatted e limit old).pages k ≡ Some p
     → Alike from to p.first j p.checkpoint t → drop j now ≡ drop p.first old
-    → Same-pages limit q from to (drop k (formatted e limit old).pages) (pages_from e (limit - q) q j t now)
+    → SamePages limit q from to (drop k (formatted e limit old).pages) (pages_from e (limit - q) q j t now)
 from_page e limit q j k from to t old now p l c there a d =
     let ps = (formatted e limit old).pages in
     let later = pages_from e (limit - k) k p.first p.checkpoint old in
@@ -74,7 +74,7 @@ from_page e limit q j k from to t old now p l c there a d =
     let are : drop k ps ≡ later.pages =
     append_cancel_left (take k ps) (drop k ps) later.pages (take-append-drop k ps ∙ ap (λ f. f.pages) split) in
     let done : later.ending ≡ complete = sym (ap (λ f. f.ending) split) ∙ c in
-    subst⁻¹ (λ ps. Same-pages limit q from to ps (pages_from e (limit - q) q j t now)) are (from_item e limit q j (limit - k) k p.first from to p.checkpoint t old now l a d done)
+    subst⁻¹ (λ ps. SamePages limit q from to ps (pages_from e (limit - q) q j t now)) are (from_item e limit q j (limit - k) k p.first from to p.checkpoint t old now l a d done)
 
 pub tail_law : {M : Type 0} (e : Model M) → TailLaw e
 tail_law e = record { from_item = from_item e; from_page = from_page e }

@@ -14,7 +14,7 @@ replayed zero q (p ∷ ps) = no_page (too_many_pages p.first q)
 replayed (suc more) q (p ∷ ps) = onto (p ∷ []) (replayed more (suc q) ps)
 
 -- a formatting from page number q on has these pages, moved
-pub record Same-pages {M : Type 0} (limit q from to : ℕ) (ps : List (Page M)) (f : Formatted M) : Type 0 where
+pub record SamePages {M : Type 0} (limit q from to : ℕ) (ps : List (Page M)) (f : Formatted M) : Type 0 where
   -- in one equation
   pub replays : f ≡ replayed (limit - q) q (map (moved from to) ps)
   -- it has all of them, if they are not too many
@@ -36,7 +36,7 @@ pub record TailLaw {M : Type 0} (e : Model M) : Type 0 where
       → Alike from to i j s t
       → drop j now ≡ drop i old
       → (pages_from e more r i s old).ending ≡ complete
-      → Same-pages limit q from to (pages_from e more r i s old).pages (pages_from e (limit - q) q j t now)
+      → SamePages limit q from to (pages_from e more r i s old).pages (pages_from e (limit - q) q j t now)
   -- so they are old page number k and those behind it, if that page began at an item that is alike, with its checkpoint
   pub from_page : (limit q j k from to : ℕ) (t : M) (old now : List Line) (p : Page M)
       → q ≤ limit
@@ -44,4 +44,4 @@ pub record TailLaw {M : Type 0} (e : Model M) : Type 0 where
       → slice_get (formatted e limit old).pages k ≡ Some p
       → Alike from to p.first j p.checkpoint t
       → drop j now ≡ drop p.first old
-      → Same-pages limit q from to (drop k (formatted e limit old).pages) (pages_from e (limit - q) q j t now)
+      → SamePages limit q from to (drop k (formatted e limit old).pages) (pages_from e (limit - q) q j t now)
