@@ -10,12 +10,7 @@ impl StoreFault {
     pub fn layer(&self) -> Layer
         ensures { result ≡ (refusal self.now).layer }
     {
-        match self {
-            StoreFault::NoLine { .. } => Layer::Store,
-            StoreFault::TooLong { .. } => Layer::Store,
-            StoreFault::BadByte { .. } => Layer::Store,
-            StoreFault::Full { .. } => Layer::Store,
-        }
+        Layer::Store
     }
 
     // The number of the fault.

@@ -1,5 +1,4 @@
 ghost use Rattle.std.specs.Prelude.{◌≡◌, ℕ, ◌<◌, ◌≤◌, true, false, ◌||◌, Some, MatchOption, nat_lt, slice_index_or};
-ghost use Rattle.std.specs.List.{slice_get};
 ghost use Rattle.page_table.specs.Indexes.{users};
 ghost use Rattle.page_table.specs.Sound.{most_places, Within};
 

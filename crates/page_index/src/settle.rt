@@ -4,8 +4,8 @@ ghost use Rattle.page_table.specs.Free.{Free};
 ghost use Rattle.std.proofs.Math.Seq.{paste};
 ghost use Rattle.page_table.specs.Settled.{settled};
 ghost use Rattle.page_index.specs.Tables.{Movable, taken_over};
-ghost use Rattle.page_table.specs.Changes.{Admits, added, next_page, TakesOver};
-ghost use Rattle.page_index.specs.Promise.{ChangeGives, Adds, Finishes};
+ghost use Rattle.page_table.specs.Changes.{Admits, added};
+ghost use Rattle.page_index.specs.Promise.{ChangeGives, Adds};
 
 use super::fault::PageSetFault;
 use super::index::PageIndex;

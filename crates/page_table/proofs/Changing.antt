@@ -1,5 +1,5 @@
 -- Each change of an index leaves an index.
-use Rattle.std.proofs.Common.{◌≡◌, ℕ, suc, ◌+◌, ◌-◌, ◌/◌, ◌<◌, ◌≤◌, ◌⊎◌, List, [], ◌∷◌, ◌++◌, length, take, Some, sym, refl, ap, ◌∙◌, subst, inl, inr, append-nil, arith}
+use Rattle.std.proofs.Common.{◌≡◌, ℕ, suc, ◌+◌, ◌-◌, ◌<◌, ◌≤◌, ◌⊎◌, List, [], ◌∷◌, ◌++◌, length, take, Some, sym, refl, ap, ◌∙◌, subst, inl, inr, append-nil, arith}
 use Rattle.std.specs.List.{slice_get}
 use Rattle.std.proofs.lemmas.List.{take_all, length_push}
 use Rattle.std.proofs.lemmas.Bool.{cases_lt, cases_eq}
@@ -10,10 +10,10 @@ use Rattle.page_table.specs.declared.state.Numbers.{Numbers}
 use Rattle.page_table.specs.declared.state.Way.{Way}
 use Rattle.page_table.specs.declared.state.Phase.{Phase}
 use Rattle.page_table.specs.declared.state.Phase.TheVariants.{Unfilled, Edited, Resumed, Settled}
-use Rattle.page_table.specs.Indexes.{Index, no_way, way_of, limit, held, users}
-use Rattle.page_table.specs.Sound.{FollowFrom, Filled, FewRows, Within, Apart, GoodPlaces, Sound, Restart}
+use Rattle.page_table.specs.Indexes.{Index, way_of, limit, held, users}
+use Rattle.page_table.specs.Sound.{FollowFrom, Filled, FewRows, Within, Apart, Sound, Restart}
 use Rattle.page_table.specs.Settled.{settled}
-use Rattle.page_table.specs.Changes.{empty, in_phase, Begins, Begins.at_start, Begins.at_page, next_page, Admits, gone_on, added, kept_at, TakesOver}
+use Rattle.page_table.specs.Changes.{in_phase, Begins, Begins.at_start, Begins.at_page, next_page, Admits, gone_on, added, kept_at, TakesOver}
 use Rattle.page_table.proofs.Elements.{none_some, some_single, nth_within, nth_left, each_append, each_left, each_right, each_one}
 use Rattle.page_table.proofs.Held.{held_append, held_mono, first_is, end_is, follow_append, follow_one, follow_none}
 use Rattle.page_table.proofs.Users.{users_append, users_one, users_other}
@@ -307,28 +307,6 @@ sound_begun i way sound edited begins =
           omega arith,
           λ x q. subst (λ (y : ℕ). y < i.places) (some_single p.place x q) (sound.within k p (nth_left i.pages i.made k p holds.there)),
         )
-
--- an index without pages
-pub sound_empty : (phase : Phase) (places lines : ℕ) → GoodPlaces places → lines ≤ store_limit → way_of phase ≡ no_way → (phase ≡ Settled → ⊥) → ((way : Way) → phase ≡ Resumed way → ⊥) → Sound (empty phase places lines)
-sound_empty phase places lines good few none unsettled not-resumed =
-    record {
-      sized = (good, omega arith);
-      follow = follow_none 0;
-      whole = refl;
-      filled = λ k p e. absurd (none_some p e);
-      few = λ k p e. absurd (none_some p e);
-      within = λ k p e. absurd (none_some p e);
-      apart = λ x. omega arith;
-      counted = (omega arith, omega arith, omega arith);
-      bounded = (omega arith, omega arith);
-      untouched = λ e. absurd (unsettled e);
-      touched = λ _. omega arith;
-      between = subst (λ (w : Way). (w.start ≡ held (take w.restart [])) × (w.next ≡ w.start + held []) × (w.next < lines + 1)) (sym none) (refl, refl, omega arith);
-      numbered = subst (λ (w : Way). (w.restart ≤ length {A = PageEntry} []) × (length {A = PageEntry} [] ≡ w.made) × (w.restart + w.made ≤ places / 2)) (sym none) (omega arith, refl, omega arith);
-      onward = follow_none (way_of phase).start;
-      restarted = λ way e. absurd (not-resumed way e);
-      kept = λ x e. absurd (none_some x (sym (ap (λ (w : Way). w.kept) none) ∙ e));
-    }
 
 -- the pages hold the untouched items in front
 pub head_held : (i : Index) → Sound i → i.numbers.marks.head ≤ held i.pages

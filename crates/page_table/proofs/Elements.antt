@@ -62,9 +62,6 @@ module _ {X : Type 0} where
   Each P xs = (k : ℕ) (x : X) → slice_get xs k ≡ Some x → P x
 
   module _ (P : X → Type 0) where
-    pub each_none : Each P []
-    each_none k x e = absurd (none_some x e)
-
     pub each_one : (y : X) → P y → Each P (y ∷ [])
     each_one y h zero x e = rw (← some_single y x e) h
     each_one y h (suc k) x e = absurd (none_some x e)

@@ -78,9 +78,6 @@ module _ (i : Index) (made : List PageEntry) (over : ℕ) (sound : Sound i) (mee
   taken : List PageEntry
   taken = map (moved_entry i.numbers.items_then i.numbers.items_now) (drop over i.pages)
 
-  level_at : held (take over i.pages) + i.numbers.items_now ≡ (way_of i.phase).start + held made + i.numbers.items_then
-  level_at = meets.level
-
   follow_settled : FollowFrom 0 (settled_pages i made over)
   unfolding front taken
   follow_settled =
