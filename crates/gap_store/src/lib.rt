@@ -4,7 +4,7 @@
 mod edit;
 mod gap;
 mod moves;
+mod packed;
 mod store;
-mod walk;
 
 pub use store::GapStore;

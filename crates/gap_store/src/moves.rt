@@ -1,122 +1,116 @@
 // Edits of lines around a gap.
-ghost use Rattle.std.specs.Prelude.{◌≡◌, ◌+◌, ◌<◌, ◌≤◌, length, slice_set};
+ghost use Rattle.std.specs.Prelude.{◌≡◌, ◌+◌, ◌<◌, ◌≤◌, length, vec_len};
 ghost use Rattle.std.proofs.Math.Seq.{paste};
 ghost use Rattle.std.specs.List.{insert, remove};
-ghost use Rattle.line.specs.Lines.{line_limit};
-ghost use Rattle.line.specs.Stores.{charges};
+ghost use Rattle.line.specs.Stores.{store_limit};
 ghost use Rattle.gap_store.specs.Records.{record_of, taken};
-ghost use Rattle.gap_store.specs.Gaps.{gap_lines, Holds, Sound};
+ghost use Rattle.gap_store.specs.Gaps.{gap_lines};
 
 use super::gap::Gap;
-use super::walk::line_start;
-
-// Moves the gap down to line `at`.
-fn gap_down(memory: &mut [u8], gap: Gap, at: usize) -> Gap
-    requires place { at ≤ gap.before }
-    requires sound { Sound gap memory.old }
-    ensures holds { Holds (gap_lines gap memory.old) result memory.new }
-    ensures there { result.before ≡ at }
-{
-    let end = gap.front;
-    let start = line_start(&memory[0..end], gap.before, at);
-    let back = gap.back - (end - start);
-    memory.copy_within(start..end, back);
-    Gap {
-        before: at,
-        behind: gap.behind + (gap.before - at),
-        front: start,
-        back,
-    }
-}
-
-// Moves the gap up to line `at`.
-fn gap_up(memory: &mut [u8], gap: Gap, at: usize) -> Gap
-    requires low { gap.before ≤ at }
-    requires place { at ≤ gap.before + gap.behind }
-    requires sound { Sound gap memory.old }
-    ensures holds { Holds (gap_lines gap memory.old) result memory.new }
-    ensures there { result.before ≡ at }
-{
-    let start = gap.back;
-    let lines = at - gap.before;
-    let size = line_start(&memory[start..], gap.behind, lines);
-    memory.copy_within(start..start + size, gap.front);
-    Gap {
-        before: at,
-        behind: gap.behind - lines,
-        front: gap.front + size,
-        back: start + size,
-    }
-}
-
-// Moves the gap to line `at`.
-pub(crate) fn move_gap(memory: &mut [u8], gap: Gap, at: usize) -> Gap
-    requires place { at ≤ gap.before + gap.behind }
-    requires sound { Sound gap memory.old }
-    ensures holds { Holds (gap_lines gap memory.old) result memory.new }
-    ensures there { result.before ≡ at }
-{
-    if at < gap.before {
-        gap_down(memory, gap, at)
-    } else {
-        gap_up(memory, gap, at)
-    }
-}
+use super::store::GapStore;
+use line::CheckedLine;
 
 // Writes a line between its two lengths.
-fn write_record(memory: &mut [u8], start: usize, line: &[u8])
-    requires room { start + taken (length line.now) ≤ length memory.old }
-    requires short { length line.now ≤ line_limit }
-    ensures { memory.new ≡ paste memory.old start (record_of line.now) (taken (length line.now)) }
+fn write_record(memory: &mut [u8], start: usize, line: CheckedLine<'_>)
+    requires { start + taken (length line.bytes.now) ≤ length memory.old }
+    ensures { memory.new ≡ paste memory.old start (record_of line.entry.bytes.now) (taken (length line.entry.bytes.now)) }
 {
-    let end = start + 1 + line.len();
-    memory[start] = line.len() as u8;
-    memory[start + 1..end].copy_from_slice(line);
-    memory[end] = line.len() as u8;
+    let bytes = line.bytes();
+    let end = start + 1 + bytes.len();
+    memory[start] = bytes.len() as u8;
+    memory[start + 1..end].copy_from_slice(bytes);
+    memory[end] = bytes.len() as u8;
 }
 
-// Puts a line before line `at`, and the gap behind it.
-pub(crate) fn insert_line(memory: &mut [u8], gap: Gap, at: usize, line: &[u8]) -> Gap
-    requires place { at ≤ gap.before + gap.behind }
-    requires sound { Sound gap memory.old }
-    requires short { length line.now ≤ line_limit }
-    requires room { gap.front + taken (length line.now) ≤ gap.back }
-    ensures { Holds (insert (gap_lines gap memory.old) at line.now) result memory.new }
-{
-    let gap = move_gap(memory, gap, at);
-    write_record(memory, gap.front, line);
-    Gap {
-        before: gap.before + 1,
-        behind: gap.behind,
-        front: gap.front + line.len() + 2,
-        back: gap.back,
+impl GapStore {
+    // Moves the gap down to line `at`.
+    fn gap_down(&mut self, at: usize)
+        requires { at ≤ self.old.gap.before }
+        ensures lines { gap_lines self.new.gap self.new.memory.items ≡ gap_lines self.old.gap self.old.memory.items }
+        ensures memory { vec_len self.new.memory ≡ vec_len self.old.memory }
+        ensures there { self.new.gap.before ≡ at }
+    {
+        let gap = self.gap;
+        let start = self.fore().start(at);
+        let back = gap.back - (gap.front - start);
+        self.memory
+            .as_mut_slice()
+            .copy_within(start..gap.front, back);
+        self.gap = Gap {
+            before: at,
+            behind: gap.behind + (gap.before - at),
+            front: start,
+            back,
+        };
     }
-}
 
-// Takes line `at` out, and leaves the gap in its place.
-pub(crate) fn remove_line(memory: &mut [u8], gap: Gap, at: usize) -> Gap
-    requires place { at < gap.before + gap.behind }
-    requires sound { Sound gap memory.old }
-    ensures { Holds (remove (gap_lines gap memory.old) at) result memory.new }
-{
-    let gap = move_gap(memory, gap, at);
-    let length = memory[gap.back] as usize;
-    Gap {
-        before: gap.before,
-        behind: gap.behind - 1,
-        front: gap.front,
-        back: gap.back + length + 2,
+    // Moves the gap up to line `at`.
+    fn gap_up(&mut self, at: usize)
+        requires low { self.old.gap.before ≤ at }
+        requires place { at ≤ self.old.gap.before + self.old.gap.behind }
+        ensures lines { gap_lines self.new.gap self.new.memory.items ≡ gap_lines self.old.gap self.old.memory.items }
+        ensures memory { vec_len self.new.memory ≡ vec_len self.old.memory }
+        ensures there { self.new.gap.before ≡ at }
+    {
+        let gap = self.gap;
+        let lines = at - gap.before;
+        let size = self.aft().start(lines);
+        self.memory
+            .as_mut_slice()
+            .copy_within(gap.back..gap.back + size, gap.front);
+        self.gap = Gap {
+            before: at,
+            behind: gap.behind - lines,
+            front: gap.front + size,
+            back: gap.back + size,
+        };
     }
-}
 
-// Puts a line in the place of line `at`, and the gap behind it.
-pub(crate) fn replace_line(memory: &mut [u8], gap: Gap, at: usize, line: &[u8]) -> Gap
-    requires place { at < gap.before + gap.behind }
-    requires sound { Sound gap memory.old }
-    requires short { length line.now ≤ line_limit }
-    requires room { charges taken (slice_set (gap_lines gap memory.old) at line.now) ≤ length memory.old }
-    ensures { Holds (slice_set (gap_lines gap memory.old) at line.now) result memory.new }
-{
-    let gap = remove_line(memory, gap, at);
-    insert_line(memory, gap, at, line)
+    // Moves the gap to line `at`.
+    pub(crate) fn move_gap(&mut self, at: usize)
+        requires { at ≤ self.old.gap.before + self.old.gap.behind }
+        ensures lines { gap_lines self.new.gap self.new.memory.items ≡ gap_lines self.old.gap self.old.memory.items }
+        ensures memory { vec_len self.new.memory ≡ vec_len self.old.memory }
+        ensures there { self.new.gap.before ≡ at }
+    {
+        if at < self.gap.before {
+            self.gap_down(at);
+        } else {
+            self.gap_up(at);
+        }
+    }
+
+    // Puts a line before line `at`, and the gap behind it.
+    pub(crate) fn insert_line(&mut self, at: usize, line: CheckedLine<'_>)
+        requires place { at ≤ self.old.gap.before + self.old.gap.behind }
+        requires few { self.old.gap.before + self.old.gap.behind < store_limit }
+        requires room { self.old.gap.front + taken (length line.bytes.now) ≤ self.old.gap.back }
+        ensures lines { gap_lines self.new.gap self.new.memory.items ≡ insert (gap_lines self.old.gap self.old.memory.items) at line.entry.bytes.now }
+        ensures memory { vec_len self.new.memory ≡ vec_len self.old.memory }
+    {
+        self.move_gap(at);
+        let gap = self.gap;
+        write_record(self.memory.as_mut_slice(), gap.front, line);
+        self.gap = Gap {
+            before: gap.before + 1,
+            front: gap.front + line.bytes().len() + 2,
+            ..gap
+        };
+    }
+
+    // Takes line `at` out, and leaves the gap in its place.
+    pub(crate) fn remove_line(&mut self, at: usize)
+        requires { at < self.old.gap.before + self.old.gap.behind }
+        ensures lines { gap_lines self.new.gap self.new.memory.items ≡ remove (gap_lines self.old.gap self.old.memory.items) at }
+        ensures memory { vec_len self.new.memory ≡ vec_len self.old.memory }
+    {
+        self.move_gap(at);
+        let gap = self.gap;
+        let length = self.memory[gap.back] as usize;
+        self.gap = Gap {
+            behind: gap.behind - 1,
+            back: gap.back + length + 2,
+            ..gap
+        };
+    }
 }

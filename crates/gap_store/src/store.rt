@@ -1,9 +1,9 @@
-ghost use Rattle.std.specs.Prelude.{◌≡◌, ◌+◌, ◌-◌, ◌≤◌, min, [], take, drop, IfOk, vec_len};
+ghost use Rattle.std.specs.Prelude.{◌≡◌, ◌+◌, ◌-◌, ◌<◌, ◌≤◌, min, [], take, drop, IfOk, length, vec_len, slice_index_or};
 ghost use Rattle.line.specs.Stores.{store_limit};
-ghost use Rattle.gap_store.specs.Records.{Packed};
-ghost use Rattle.gap_store.specs.Gaps.{gap_limit, gap_lines, Held};
+ghost use Rattle.gap_store.specs.Gaps.{gap_limit, gap_lines, Held, Sound};
 
 use super::gap::Gap;
+use super::packed::PackedLines;
 use std::alloc::{AllocError, Global};
 
 // The most bytes of a store.
@@ -14,12 +14,9 @@ const GAP_LIMIT: usize = 524_288;
 pub struct GapStore {
     pub(crate) memory: Vec<u8>,
     pub(crate) gap: Gap,
-    ghost apart: { gap.front ≤ gap.back },
-    ghost within: { gap.back ≤ vec_len memory },
     ghost small: { vec_len memory ≤ gap_limit },
     ghost few: { gap.before + gap.behind ≤ store_limit },
-    ghost fore: { Packed gap.before (take gap.front memory.items) },
-    ghost aft: { Packed gap.behind (drop gap.back memory.items) },
+    ghost sound: { Sound gap memory.items },
     ghost held: { Held gap memory.items },
 }
 
@@ -65,5 +62,33 @@ impl GapStore {
         ensures { result ≡ vec_len self.now.memory - (self.now.gap.back - self.now.gap.front) }
     {
         self.memory.len() - self.room()
+    }
+
+    // The lines before the gap.
+    pub(crate) fn fore(&self) -> PackedLines<'_>
+        ensures bytes { result.bytes.now ≡ take self.now.gap.front self.now.memory.items }
+        ensures count { result.count ≡ self.now.gap.before }
+    {
+        PackedLines::new(&self.memory.as_slice()[..self.gap.front], self.gap.before)
+    }
+
+    // The lines behind the gap.
+    pub(crate) fn aft(&self) -> PackedLines<'_>
+        ensures bytes { result.bytes.now ≡ drop self.now.gap.back self.now.memory.items }
+        ensures count { result.count ≡ self.now.gap.behind }
+    {
+        PackedLines::new(&self.memory.as_slice()[self.gap.back..], self.gap.behind)
+    }
+
+    // Line `at`, which stands before or behind the gap.
+    pub(crate) fn line_at(&self, at: usize) -> &[u8]
+        requires { at < length (gap_lines self.now.gap self.now.memory.items) }
+        ensures { result.now ≡ slice_index_or (gap_lines self.now.gap self.now.memory.items) at [] }
+    {
+        if at < self.gap.before {
+            self.fore().line(at)
+        } else {
+            self.aft().line(at - self.gap.before)
+        }
     }
 }

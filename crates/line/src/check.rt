@@ -1,5 +1,5 @@
-ghost use Rattle.std.specs.Prelude.{◌≡◌, Some, None, MatchResult};
-ghost use Rattle.line.specs.Lines.{bad_from, is_line};
+ghost use Rattle.std.specs.Prelude.{◌≡◌, Some, None, MatchResult, position, not};
+ghost use Rattle.line.specs.Lines.{is_line, printable};
 ghost use Rattle.line.specs.Faults.{line_fault};
 
 use super::fault::StoreFault;
@@ -10,19 +10,22 @@ const FIRST_BYTE: u8 = 32;
 
 const LAST_BYTE: u8 = 126;
 
+// Whether a line may hold a byte.
+fn is_printable(byte: u8) -> bool
+    ensures { result ≡ printable byte }
+{
+    (FIRST_BYTE..=LAST_BYTE).contains(&byte)
+}
+
 // The column of the first byte that a line may not hold.
 fn bad_column(bytes: &[u8]) -> Option<usize>
-    ensures { result ≡ bad_from 0 bytes.now }
+    ensures { result ≡ position (λ b. not (printable b)) bytes.now }
 {
-    for (column, byte) in bytes.iter().enumerate() {
-        if *byte < FIRST_BYTE || *byte > LAST_BYTE {
-            return Some(column);
-        }
-    }
-    None
+    bytes.iter().position(|byte| !is_printable(*byte))
 }
 
 // Whether bytes are a line; the fault says why they are not.
+#[tactic(auto, using(crate::proofs::Columns::bad_position))]
 pub fn check_line(bytes: &[u8]) -> Result<(), StoreFault>
     ensures { MatchResult result (λ _. line_fault bytes.now ≡ None) (λ f. line_fault bytes.now ≡ Some f) }
 {

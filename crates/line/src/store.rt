@@ -10,14 +10,14 @@ pub const LINE_LIMIT: usize = 120;
 // The most lines of a store.
 pub const STORE_LIMIT: usize = 4096;
 
-// The most lines of a store, as the definitions have it.
+// The most lines of a store, as the definitions have it: the constant and its definition are tied here, and nothing else has them.
 pub fn store_limit() -> usize
     ensures { result ≡ store_limit }
 {
     STORE_LIMIT
 }
 
-// A line is read to the front of such a buffer.
+// A line is read to the front of such a buffer, with its length beside it: a store may keep lines in pieces, and no read needs a heap.
 pub type LineBuffer = [u8; LINE_LIMIT];
 
 // A list of at most 4,096 lines, within a capacity that each line is charged to by its length.

@@ -1,9 +1,10 @@
 // Slots as bytes.
 ghost use Rattle.std.specs.Prelude.{◌≡◌, ◌+◌, ◌-◌, ◌*◌, ◌≤◌, true, length};
-ghost use Rattle.line.specs.Lines.{is_line, line_limit};
+ghost use Rattle.line.specs.Lines.{is_line};
 ghost use Rattle.slot_store.specs.Slots.{slot_size, slot_at, slot_line, with_line, with_slots};
 
 use super::store::SLOT_SIZE;
+use line::CheckedLine;
 
 // The line in slot `at`.
 pub(crate) fn line_in(memory: &[u8], at: usize) -> &[u8]
@@ -17,22 +18,21 @@ pub(crate) fn line_in(memory: &[u8], at: usize) -> &[u8]
 }
 
 // Writes a line into slot `at`.
-pub(crate) fn write_line(memory: &mut [u8], at: usize, line: &[u8])
-    requires whole { slot_size * at + slot_size ≤ length memory.old }
-    requires short { length line.now ≤ line_limit }
-    ensures { memory.new ≡ with_line memory.old at line.now }
+pub(crate) fn write_line(memory: &mut [u8], at: usize, line: CheckedLine<'_>)
+    requires { slot_size * at + slot_size ≤ length memory.old }
+    ensures { memory.new ≡ with_line memory.old at line.entry.bytes.now }
 {
     let start = SLOT_SIZE * at;
-    memory[start] = line.len() as u8;
-    memory[start + 1..start + 1 + line.len()].copy_from_slice(line);
+    let bytes = line.bytes();
+    memory[start] = bytes.len() as u8;
+    memory[start + 1..start + 1 + bytes.len()].copy_from_slice(bytes);
 }
 
 // Moves the slots from `at` to `count` up by one, and writes a line into slot `at`.
-pub(crate) fn insert_line(memory: &mut [u8], count: usize, at: usize, line: &[u8])
+pub(crate) fn insert_line(memory: &mut [u8], count: usize, at: usize, line: CheckedLine<'_>)
     requires place { at ≤ count }
     requires room { slot_size * (count + 1) ≤ length memory.old }
-    requires short { length line.now ≤ line_limit }
-    ensures { memory.new ≡ with_line (with_slots memory.old at count (at + 1)) at line.now }
+    ensures { memory.new ≡ with_line (with_slots memory.old at count (at + 1)) at line.entry.bytes.now }
 {
     move_slots(memory, at, count, at + 1);
     write_line(memory, at, line);

@@ -1,28 +1,11 @@
 // The store's calls.
-ghost use Rattle.std.specs.Prelude.{◌≡◌, ◌<◌, ◌≤◌, vec_len, MatchResult};
-ghost use Rattle.line.specs.declared.fault.StoreFault.TheVariants.{NoLine};
+ghost use Rattle.std.specs.Prelude.{vec_len};
 ghost use Rattle.slot_store.specs.Slots.{slots_in, slots_of};
 ghost use Rattle.slot_store.specs.Stored.{kept_by};
 
 use super::bytes::{insert_line, line_in, move_slots, write_line};
 use super::store::SlotStore;
-use line::{LineBuffer, LineStore, StoreFault, check_line};
-
-impl SlotStore {
-    // Refuses a line that is not there.
-    fn check_at(&self, at: usize) -> Result<(), StoreFault>
-        ensures { MatchResult result (λ _. at < self.now.count) (λ f. (self.now.count ≤ at) × (f ≡ NoLine at self.now.count)) }
-    {
-        if at < self.count {
-            Ok(())
-        } else {
-            Err(StoreFault::NoLine {
-                line: at,
-                count: self.count,
-            })
-        }
-    }
-}
+use line::{CheckedLine, LineBuffer, LineStore, StoreFault, check_place};
 
 impl LineStore for SlotStore {
     ghost lines = { λ s. slots_of s.count s.memory.items };
@@ -33,32 +16,31 @@ impl LineStore for SlotStore {
 
     ghost kept = { λ s. kept_by s.memory s.count s.within s.held };
 
+    #[tactic(auto, using(crate::specs::SlotsLemmas::length_slots))]
     fn count(&self) -> usize {
         self.count
     }
 
+    #[tactic(auto, using(crate::specs::SlotsLemmas::length_slots))]
     fn read(&self, at: usize, line: &mut LineBuffer) -> Result<usize, StoreFault> {
-        self.check_at(at)?;
+        check_place(at, self.count, self.count)?;
         let bytes = line_in(self.memory.as_slice(), at);
         line[0..bytes.len()].copy_from_slice(bytes);
         Ok(bytes.len())
     }
 
+    #[tactic(auto, using(crate::specs::SlotsLemmas::length_slots))]
     fn replace(&mut self, at: usize, line: &[u8]) -> Result<(), StoreFault> {
-        self.check_at(at)?;
-        check_line(line)?;
+        check_place(at, self.count, self.count)?;
+        let line = CheckedLine::try_from(line)?;
         write_line(self.memory.as_mut_slice(), at, line);
         Ok(())
     }
 
+    #[tactic(auto, using(crate::specs::SlotsLemmas::length_slots))]
     fn insert(&mut self, at: usize, line: &[u8]) -> Result<(), StoreFault> {
-        if at > self.count {
-            return Err(StoreFault::NoLine {
-                line: at,
-                count: self.count,
-            });
-        }
-        check_line(line)?;
+        check_place(at, self.count + 1, self.count)?;
+        let line = CheckedLine::try_from(line)?;
         if self.count >= self.slots() {
             return Err(StoreFault::Full {
                 charges: self.count,
@@ -70,8 +52,9 @@ impl LineStore for SlotStore {
         Ok(())
     }
 
+    #[tactic(auto, using(crate::specs::SlotsLemmas::length_slots))]
     fn remove(&mut self, at: usize) -> Result<(), StoreFault> {
-        self.check_at(at)?;
+        check_place(at, self.count, self.count)?;
         move_slots(self.memory.as_mut_slice(), at + 1, self.count, at);
         self.count -= 1;
         Ok(())

@@ -8,7 +8,8 @@ use std::alloc::{AllocError, Global};
 // The bytes of a slot.
 pub(crate) const SLOT_SIZE: usize = 128;
 
-// Line `i` stands in slot `i`: its length in the first byte, its bytes behind it.
+// Line `i` stands in slot `i`: its length in the first byte, its bytes behind it. The memory may be given, so it is bytes with a count
+// and no vector of lines.
 #[derive(Drop)]
 pub struct SlotStore {
     pub(crate) memory: Vec<u8>,

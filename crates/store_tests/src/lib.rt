@@ -1,6 +1,8 @@
 // The same edits and reads on every store there is.
 #![tactic(auto)]
 
+ghost use Rattle.std.specs.Prelude.{◌<◌};
+
 #[cfg(test)]
 mod tests {
     use gap_store::GapStore;
@@ -15,7 +17,10 @@ mod tests {
     struct Dice(u32);
 
     impl Dice {
-        fn roll(&mut self, sides: usize) -> usize {
+        // A number below the number of sides, and 0 where there are none.
+        fn roll(&mut self, sides: usize) -> usize
+            ensures { 0 < sides → result < sides }
+        {
             self.0 = self.0.wrapping_mul(1_664_525).wrapping_add(1_013_904_223);
             let high = (self.0 >> 8) as usize;
             if sides == 0 { 0 } else { high % sides }
@@ -23,7 +28,7 @@ mod tests {
     }
 
     // A line, now and then too long or with a bad byte.
-    fn any_line(dice: &mut Dice, line: &mut [u8; 130]) -> usize {
+    fn any_line<'a>(dice: &mut Dice, line: &'a mut [u8; 130]) -> &'a [u8] {
         let first = dice.roll(95);
         for (i, byte) in line.iter_mut().enumerate() {
             *byte = (32 + first.wrapping_add(i) % 95) as u8;
@@ -31,51 +36,32 @@ mod tests {
         if dice.roll(9) == 0 {
             line[3] = 31;
         }
-        match dice.roll(5) {
+        let length = match dice.roll(5) {
             0 => 0,
             1 => LINE_LIMIT,
             2 => dice.roll(130),
             _ => dice.roll(20),
-        }
+        };
+        &line[0..length]
     }
 
     // One refusal: whole, but for the charges and capacity of a full store.
     fn agree(a: Result<(), StoreFault>, b: Result<(), StoreFault>) -> bool {
-        match a {
-            Ok(()) => b.is_ok(),
-            Err(x) => match b {
-                Ok(()) => false,
-                Err(y) => x == y || (x.number() == 4 && y.number() == 4),
-            },
+        match (a, b) {
+            (Err(StoreFault::Full { .. }), Err(StoreFault::Full { .. })) => true,
+            _ => a == b,
         }
     }
 
     fn same_line<A: LineStore, B: LineStore>(a: &A, b: &B, at: usize) -> bool {
         let mut left: LineBuffer = [7; LINE_LIMIT];
         let mut right: LineBuffer = [7; LINE_LIMIT];
-        match a.read(at, &mut left) {
-            Err(x) => match b.read(at, &mut right) {
-                Err(y) => x == y && left == right,
-                Ok(_) => false,
-            },
-            Ok(n) => match b.read(at, &mut right) {
-                Err(_) => false,
-                Ok(m) => n == m && left == right,
-            },
-        }
+        a.read(at, &mut left) == b.read(at, &mut right) && left == right
     }
 
     // All lines, and one place behind them.
     fn same_lines<A: LineStore, B: LineStore>(a: &A, b: &B) -> bool {
-        if a.count() != b.count() {
-            return false;
-        }
-        for at in 0..a.count() {
-            if !same_line(a, b, at) {
-                return false;
-            }
-        }
-        same_line(a, b, a.count())
+        a.count() == b.count() && (0..=a.count()).all(|at| same_line(a, b, at))
     }
 
     fn one_edit<A: LineStore, B: LineStore>(
@@ -84,29 +70,20 @@ mod tests {
         a: &mut A,
         b: &mut B,
     ) -> bool {
-        let mut line = [0u8; 130];
-        let length = any_line(dice, &mut line);
+        let mut bytes = [0u8; 130];
+        let line = any_line(dice, &mut bytes);
         let at = match dice.roll(6) {
             0 => 0,
             1 => a.count(),
             _ => dice.roll(a.count().saturating_add(2)),
         };
-        if length > 130 {
-            return false;
-        }
         if dice.roll(10) < grows {
-            return agree(
-                a.insert(at, &line[0..length]),
-                b.insert(at, &line[0..length]),
-            );
+            return agree(a.insert(at, line), b.insert(at, line));
         }
         if dice.roll(2) == 0 {
             return agree(a.remove(at), b.remove(at));
         }
-        agree(
-            a.replace(at, &line[0..length]),
-            b.replace(at, &line[0..length]),
-        )
+        agree(a.replace(at, line), b.replace(at, line))
     }
 
     // Many edits: the stores agree after each on its answer and a line, and now and then on all lines.

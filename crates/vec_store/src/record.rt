@@ -1,25 +1,29 @@
-ghost use Rattle.std.specs.Prelude.{◌≡◌, ◌≤◌, true, take};
-ghost use Rattle.line.specs.Lines.{is_line, line_limit};
+ghost use Rattle.std.specs.Prelude.{◌≡◌, true};
+ghost use Rattle.line.specs.Lines.{is_line};
 
-use line::{LINE_LIMIT, LineBuffer};
+use arrayvec::ArrayVec;
+use line::{CheckedLine, LINE_LIMIT};
 
-// A line at the front of its bytes.
-#[derive(Clone, Copy)]
+// A line in bytes of its own.
+#[derive(Drop)]
 pub(crate) struct LineRecord {
-    pub(crate) size: usize,
-    pub(crate) bytes: LineBuffer,
-    ghost short: { size ≤ line_limit },
-    ghost good: { is_line (take size bytes) ≡ true },
+    bytes: ArrayVec<u8, LINE_LIMIT>,
+    ghost good: { is_line bytes.items ≡ true },
 }
 
 impl LineRecord {
-    pub(crate) fn of(line: &[u8]) -> LineRecord
-        requires { is_line line.now ≡ true }
-        ensures { take result.size result.bytes ≡ line.now }
+    pub(crate) fn bytes(&self) -> &[u8]
+        ensures { result.now ≡ self.now.bytes.items }
     {
-        let size = line.len();
-        let mut bytes = [0; LINE_LIMIT];
-        bytes[0..size].copy_from_slice(line);
-        LineRecord { size, bytes }
+        self.bytes.as_slice()
+    }
+}
+
+impl From<CheckedLine<'_>> for LineRecord {
+    ghost from_gives = { λ line r. r.bytes.items ≡ line.bytes.now };
+
+    fn from(line: CheckedLine<'_>) -> LineRecord {
+        let bytes = ArrayVec::try_from(line.bytes()).unwrap();
+        LineRecord { bytes }
     }
 }

@@ -4,4 +4,4 @@ use Rattle.slot_store.proofs.bytes.insert_line.Goals as goal
 
 pub returns : goal.returns
 returns c =
-    c.write_line.ensures ∙ ap (λ (xs : List ℕ). with_line xs c.args.at c.args.line.now) c.move_slots.ensures
+    c.write_line.ensures ∙ ap (λ (xs : List ℕ). with_line xs c.args.at c.args.line.bytes.now) c.move_slots.ensures

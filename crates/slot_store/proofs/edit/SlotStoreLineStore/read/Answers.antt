@@ -1,17 +1,7 @@
-use Rattle.std.proofs.Common.{◌≡◌, ℕ, ◌-◌, List, [], ◌++◌, length, get_or, drop, vec_items, sym, refl, ap, ◌∙◌, arith}
-use Rattle.std.proofs.lemmas.Result.{err_from_is_err_and}
-use Rattle.line.specs.declared.fault.StoreFault.TheVariants.{NoLine}
+use Rattle.std.proofs.Common.{◌≡◌, ℕ, ◌-◌, List, [], ◌++◌, length, get_or, drop, vec_items, sym, ap, ◌∙◌, arith}
 use Rattle.slot_store.specs.Slots.{slot_at, slot_line, slots_of}
 use Rattle.slot_store.specs.SlotsLemmas.{length_slots, get_or_slots}
 use Rattle.slot_store.proofs.edit.SlotStoreLineStore.read.Goals as goal
-
-pub returns-in_err-check_at : goal.returns-in_err-check_at
-returns-in_err-check_at c =
-    let s = c.args.self.now in
-    let n = length_slots s.count (vec_items s.memory) in
-    let p = err_from_is_err_and c.from_residual.result c.from_residual.ensures.1 in
-    let h = c.in_err-check_at.ensures in
-    rw (p.1, p.2, h.1) (omega arith, ap (NoLine c.args.at) (sym n), refl)
 
 pub returns : goal.returns
 returns c =
@@ -22,7 +12,7 @@ returns c =
     let is : bytes ≡ get_or (slots_of s.count (vec_items s.memory)) c.args.at [] =
     c.line_in-bytes.ensures
     ∙ ap (λ (xs : List ℕ). slot_line (slot_at xs c.args.at)) c.as_slice.ensures.value
-    ∙ sym (get_or_slots s.count (vec_items s.memory) c.args.at c.in_ok-check_at.ensures)
+    ∙ sym (get_or_slots s.count (vec_items s.memory) c.args.at c.in_ok-check_place.ensures)
     in (
       omega arith,
       ap length is,

@@ -6,12 +6,12 @@ use Rattle.slot_store.specs.SlotsLemmas.{length_slots}
 use Rattle.slot_store.specs.Stored.{charged, now_removed, held_removed}
 use Rattle.slot_store.proofs.edit.SlotStoreLineStore.remove.Goals as goal
 
-pub returns-in_err-check_at : goal.returns-in_err-check_at
-returns-in_err-check_at c =
+pub returns-in_err-check_place : goal.returns-in_err-check_place
+returns-in_err-check_place c =
     let s = c.args.self.now in
     let n = length_slots s.count (vec_items s.memory) in
     let p = err_from_is_err_and c.from_residual.result c.from_residual.ensures.1 in
-    let h = c.in_err-check_at.ensures in
+    let h = c.in_err-check_place.ensures in
     rw (p.1, p.2, h.1)
     record {
       first = remove_nowhere (slots_in (vec_len s.memory)) (λ _. 1) (slots_of s.count (vec_items s.memory)) c.args.at s.count (sym n) h.0;

@@ -1,21 +1,8 @@
-use Rattle.std.proofs.Common.{vec_items, sym, refl, ap, ◌∙◌, arith}
-use Rattle.std.proofs.lemmas.Result.{err_from_is_err_and}
-use Rattle.line.proofs.Edits.{remove_nowhere, remove_allowed}
+use Rattle.std.proofs.Common.{vec_items, refl, ap, ◌∙◌, arith}
+use Rattle.line.proofs.Edits.{remove_allowed}
 use Rattle.vec_store.specs.Records.{record_lines}
 use Rattle.vec_store.specs.RecordsLemmas.{length_lines, charged, lines_removed}
 use Rattle.vec_store.proofs.edit.VecStoreLineStore.remove.Goals as goal
-
-pub returns-in_err-check_at : goal.returns-in_err-check_at
-returns-in_err-check_at c =
-    let s = c.args.self.now in
-    let rs = vec_items s.records in
-    let p = err_from_is_err_and c.from_residual.result c.from_residual.ensures.1 in
-    let h = c.in_err-check_at.ensures in
-    rw (p.1, p.2, h.1)
-    record {
-      first = remove_nowhere s.room (λ _. 1) (record_lines rs) c.args.at _ (s.records.ok.0 ∙ sym (length_lines rs)) h.0;
-      same = refl;
-    }
 
 pub returns : goal.returns
 returns c =
@@ -26,7 +13,7 @@ returns c =
     let all = charged rs in
     let f = s.few in
     let w = s.within in
-    let h = c.in_ok-check_at.ensures in
+    let h = c.in_ok-check_place.ensures in
     record {
       allowed = remove_allowed s.room (λ _. 1) (record_lines rs) c.args.at (omega arith) (omega arith) (omega arith);
       list = ap record_lines c.remove.ensures.items ∙ lines_removed rs c.args.at;
