@@ -2,22 +2,20 @@
 use Rattle.std.proofs.Common.{◌≡◌, ℕ, suc, ◌≤◌, Bool, true, false, cond, eqb, List, [], ◌∷◌, length, ℤ, pos, Some, None, Option, sym, refl, subst, arith}
 use Rattle.numerals.specs.Reads.{integer}
 use Rattle.directive.specs.declared.kinds.Argument.{Argument}
-use Rattle.directive.specs.declared.kinds.Takes.{Takes}
-use Rattle.directive.specs.declared.kinds.Takes.TheVariants.{Nothing, Number}
 use Rattle.directive.specs.Grammar.{Said, Said.text, Said.directive, Said.malformed, in_range, ranged, behind, lettered, dotted, said}
 
 -- a value that may stand behind a letter
-abbrev pub Taken : Takes → ℤ → Type 0
-Taken Nothing v = v ≡ pos 0
-Taken (Number a) v = in_range a v ≡ true
+abbrev pub Taken : Option Argument → ℤ → Type 0
+Taken None v = v ≡ pos 0
+Taken (Some a) v = in_range a v ≡ true
 
-module _ {L : Type 0} (takes : L → Takes) where
+module _ {L : Type 0} (takes : L → Option Argument) where
   abbrev pub Sound : ℕ → Said L → Type 0
   Sound n (text t) = length t ≤ n
   Sound n (directive letter v) = Taken (takes letter) v
   Sound n (malformed cause column) = Unit {0}
 
-  sound_ranged : (n : ℕ) (letter : L) (a : Argument) (o : Option ℤ) → takes letter ≡ Number a → Sound n (ranged letter a o)
+  sound_ranged : (n : ℕ) (letter : L) (a : Argument) (o : Option ℤ) → takes letter ≡ Some a → Sound n (ranged letter a o)
   sound_ranged n letter a None e = tt
   sound_ranged n letter a (Some z) e = go (in_range a z) refl
     where
@@ -25,11 +23,11 @@ module _ {L : Type 0} (takes : L → Takes) where
       go true h = subst (λ t. Taken t z) (sym e) h
       go false h = tt
 
-  sound_behind : (n : ℕ) (letter : L) (t : Takes) (bs : List ℕ) → takes letter ≡ t → Sound n (behind letter t bs)
-  sound_behind n letter Nothing [] e = subst (λ t. Taken t (pos 0)) (sym e) refl
-  sound_behind n letter Nothing (b ∷ bs) e = tt
-  sound_behind n letter (Number a) [] e = tt
-  sound_behind n letter (Number a) (b ∷ bs) e =
+  sound_behind : (n : ℕ) (letter : L) (t : Option Argument) (bs : List ℕ) → takes letter ≡ t → Sound n (behind letter t bs)
+  sound_behind n letter None [] e = subst (λ t. Taken t (pos 0)) (sym e) refl
+  sound_behind n letter None (b ∷ bs) e = tt
+  sound_behind n letter (Some a) [] e = tt
+  sound_behind n letter (Some a) (b ∷ bs) e =
       elim (eqb b 32) as (λ v. Sound n (cond v (ranged letter a (integer a.minus a.digits bs)) (malformed 2 2))) [ true ↦ sound_ranged n letter a (integer a.minus a.digits bs) e | false ↦ tt ]
 
   sound_lettered : (n : ℕ) (o : Option L) (bs : List ℕ) → Sound n (lettered takes o bs)
@@ -48,8 +46,5 @@ module _ {L : Type 0} (takes : L → Takes) where
         elim (eqb b 46) as (λ v. Sound (suc (length bs)) (cond v (dotted spelled takes bs) (text (b ∷ bs)))) [ true ↦ sound_dotted bs | false ↦ omega arith ]
 
     -- by what was said
-    pub text_short : (bs t : List ℕ) → text t ≡ said spelled takes bs → length t ≤ length bs
-    text_short bs t e = subst (Sound (length bs)) (sym e) (sound bs)
-
     pub value_taken : (bs : List ℕ) (letter : L) (v : ℤ) → directive letter v ≡ said spelled takes bs → Taken (takes letter) v
     value_taken bs letter v e = subst (Sound (length bs)) (sym e) (sound bs)

@@ -3,10 +3,10 @@ use Rattle.std.specs.Prelude.{ℕ, Bool, cond, ◌&&◌, List, [], ◌∷◌, �
 use Rattle.engine.specs.declared.EngineFault.{EngineFault}
 use Rattle.numerals.specs.Reads.{integer}
 use Rattle.directive.specs.declared.kinds.Argument.{Argument}
-use Rattle.directive.specs.declared.kinds.Takes.{Takes}
-use Rattle.directive.specs.declared.kinds.Takes.TheVariants.{Nothing, Number}
 use Rattle.directive.specs.declared.kinds.Parsed.{Parsed}
 use Rattle.directive.specs.declared.kinds.Parsed.TheVariants.{Text, Directive}
+use Rattle.directive.specs.declared.kinds.Malformed.{Malformed}
+use Rattle.directive.specs.declared.kinds.Malformed.TheVariants.{UnknownLetter, NotBehindLetter, BadArgument}
 
 -- what a line says: text, a directive with its argument (0 where it takes none), or neither, with a cause and a column
 pub data Said (L : Type 0) : Type 0 where
@@ -24,18 +24,18 @@ ranged letter a None = malformed 2 3
 ranged letter a (Some z) = cond (in_range a z) (directive letter z) (malformed 2 3)
 
 -- what stands behind the letter: nothing, or one space and an argument that ends the line; anything else is cause 2 at column 2
-abbrev pub behind : {L : Type 0} → L → Takes → List ℕ → Said L
-behind letter Nothing [] = directive letter (pos 0)
-behind letter Nothing (b ∷ bs) = malformed 2 2
-behind letter (Number a) [] = malformed 2 2
-behind letter (Number a) (b ∷ bs) = cond (b == 32) (ranged letter a (integer a.minus a.digits bs)) (malformed 2 2)
+abbrev pub behind : {L : Type 0} → L → Option Argument → List ℕ → Said L
+behind letter None [] = directive letter (pos 0)
+behind letter None (b ∷ bs) = malformed 2 2
+behind letter (Some a) [] = malformed 2 2
+behind letter (Some a) (b ∷ bs) = cond (b == 32) (ranged letter a (integer a.minus a.digits bs)) (malformed 2 2)
 
 -- a letter that is not the engine's is cause 1 at column 1
-abbrev pub lettered : {L : Type 0} → (L → Takes) → Option L → List ℕ → Said L
+abbrev pub lettered : {L : Type 0} → (L → Option Argument) → Option L → List ℕ → Said L
 lettered takes None bs = malformed 1 1
 lettered takes (Some letter) bs = behind letter (takes letter) bs
 
-module _ {L : Type 0} (spelled : ℕ → Option L) (takes : L → Takes) where
+module _ {L : Type 0} (spelled : ℕ → Option L) (takes : L → Option Argument) where
   -- behind one dot: a second dot makes it text, without the first; a missing letter is cause 1 at column 1
   abbrev pub dotted : List ℕ → Said L
   dotted [] = malformed 1 1
@@ -46,8 +46,14 @@ module _ {L : Type 0} (spelled : ℕ → Option L) (takes : L → Takes) where
   said [] = text []
   said (b ∷ bs) = cond (b == 46) (dotted bs) (text (b ∷ bs))
 
+-- the cause and the column of each refusal
+abbrev pub fault_of : Malformed → EngineFault
+fault_of UnknownLetter = record { cause = 1; column = 1 }
+fault_of NotBehindLetter = record { cause = 2; column = 2 }
+fault_of BadArgument = record { cause = 2; column = 3 }
+
 -- an answer of the code, as the definition has it
-abbrev pub answered : {L : Type 0} → Result (Parsed L) EngineFault → Said L
+abbrev pub answered : {L : Type 0} → Result (Parsed L) Malformed → Said L
 answered (Ok (Text t)) = text t.now
 answered (Ok (Directive letter value)) = directive letter value
-answered (Err f) = malformed f.cause f.column
+answered (Err m) = malformed (fault_of m).cause (fault_of m).column

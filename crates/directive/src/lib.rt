@@ -2,97 +2,67 @@
 #![tactic(auto)]
 
 ghost use Rattle.std.specs.Prelude.{◌≡◌, ℕ, Option};
-ghost use Rattle.directive.specs.declared.kinds.Takes.{Takes};
 ghost use Rattle.numerals.specs.Reads.{integer as integer_of};
-ghost use Rattle.directive.specs.Grammar.{said, answered, lettered, ranged};
+ghost use Rattle.directive.specs.declared.kinds.Argument.{Argument};
+ghost use Rattle.directive.specs.Grammar.{said, answered, behind, ranged};
 
-use engine::EngineFault;
 use numerals::integer;
 
 mod kinds;
 
-pub use kinds::{Argument, Parsed, Takes};
+pub use kinds::{Argument, Malformed, Parsed};
 
 // The letters of an engine, and what each of them takes.
 pub trait Letter: Copy {
     ghost spelled: { ℕ → Option Self };
 
-    ghost takes: { Self → Takes };
+    ghost takes: { Self → Option Argument };
 
-    // The letter that a byte stands for.
+    // The letter that a byte stands for. A `TryFrom<u8>` would need an error type, and a law beside `spelled`.
     fn from_byte(byte: u8) -> Option<Self>
         ensures { result ≡ spelled byte };
 
-    // What stands behind the letter.
-    fn argument(self) -> Takes
+    // The argument that stands behind the letter, where it takes one.
+    fn argument(self) -> Option<Argument>
         ensures { result ≡ takes self };
 }
-
-// The causes that the grammar has.
-const UNKNOWN_LETTER: EngineFault = EngineFault {
-    cause: 1,
-    column: 1,
-};
-
-const NOT_BEHIND_LETTER: EngineFault = EngineFault {
-    cause: 2,
-    column: 2,
-};
-
-const BAD_ARGUMENT: EngineFault = EngineFault {
-    cause: 2,
-    column: 3,
-};
 
 // The argument of a directive, where it is one and in range.
 fn parse_argument<'a, L: Letter>(
     letter: L,
     argument: Argument,
     digits: &[u8],
-) -> Result<Parsed<'a, L>, EngineFault>
+) -> Result<Parsed<'a, L>, Malformed>
     ensures { answered result ≡ ranged letter argument (integer_of argument.minus argument.digits digits.now) }
 {
-    match integer(digits, argument.minus, argument.digits) {
-        None => Err(BAD_ARGUMENT),
-        Some(value) => {
-            if value < argument.low || value > argument.high {
-                return Err(BAD_ARGUMENT);
-            }
-            Ok(Parsed::Directive { letter, value })
-        }
-    }
+    let value = integer(digits, argument.minus, argument.digits)
+        .filter(|value| (argument.low..=argument.high).contains(value))
+        .ok_or(Malformed::BadArgument)?;
+    Ok(Parsed::Directive { letter, value })
 }
 
 // A directive by its letter and what stands behind it.
-fn parse_directive<'a, L: Letter>(
-    letter: Option<L>,
-    rest: &[u8],
-) -> Result<Parsed<'a, L>, EngineFault>
-    ensures { answered result ≡ lettered L.takes letter rest.now }
+fn parse_directive<'a, L: Letter>(letter: L, rest: &[u8]) -> Result<Parsed<'a, L>, Malformed>
+    ensures { answered result ≡ behind letter (L.takes letter) rest.now }
 {
-    let Some(letter) = letter else {
-        return Err(UNKNOWN_LETTER);
-    };
-    match letter.argument() {
-        Takes::Nothing => match rest {
-            [] => Ok(Parsed::Directive { letter, value: 0 }),
-            _ => Err(NOT_BEHIND_LETTER),
-        },
-        Takes::Number(argument) => match rest {
-            [b' ', digits @ ..] => parse_argument(letter, argument, digits),
-            _ => Err(NOT_BEHIND_LETTER),
-        },
+    match (letter.argument(), rest) {
+        (None, []) => Ok(Parsed::Directive { letter, value: 0 }),
+        (Some(argument), [b' ', digits @ ..]) => parse_argument(letter, argument, digits),
+        _ => Err(Malformed::NotBehindLetter),
     }
 }
 
 // What a line says to an engine with the letters L.
-pub fn parse_line<'a, L: Letter>(line: &'a [u8]) -> Result<Parsed<'a, L>, EngineFault>
+pub fn parse_line<'a, L: Letter>(line: &'a [u8]) -> Result<Parsed<'a, L>, Malformed>
     ensures { answered result ≡ said L.spelled L.takes line.now }
 {
     match line {
         [b'.', b'.', ..] => Ok(Parsed::Text { text: &line[1..] }),
-        [b'.', letter, rest @ ..] => parse_directive(L::from_byte(*letter), rest),
-        [b'.'] => Err(UNKNOWN_LETTER),
+        [b'.', letter, rest @ ..] => {
+            let letter = L::from_byte(*letter).ok_or(Malformed::UnknownLetter)?;
+            parse_directive(letter, rest)
+        }
+        [b'.'] => Err(Malformed::UnknownLetter),
         text => Ok(Parsed::Text { text }),
     }
 }

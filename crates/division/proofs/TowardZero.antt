@@ -1,8 +1,7 @@
 -- Floor division: what it is, that nothing else is, and how it comes from division toward zero. Assumes nothing.
-use Rattle.std.proofs.Common.{◌≡◌, ℕ, zero, suc, ◌+◌, ◌-◌, ◌*◌, ◌/◌, ◌%◌, ◌<◌, true, false, ℤ, pos, negsuc, ◌+ℤ◌, ◌-ℤ◌, neg_ℤ, ◌≤ℤ◌, ◌<ℤ◌, sym, refl, ap, ◌∙◌, mod-lt, div-add-mod', div-le_self, arith, SFits, to_z, of_z}
-use lib.Signed.{mag_rem, lt_z, quot_z, rem_z}
-use mir.Syntax.{Width}
-use Rattle.std.proofs.lemmas.Int.{ints, to_z-of_z}
+use Rattle.std.proofs.Common.{◌≡◌, ℕ, zero, suc, ◌+◌, ◌-◌, ◌*◌, ◌/◌, ◌%◌, ◌<◌, ℤ, pos, negsuc, ◌+ℤ◌, ◌-ℤ◌, neg_ℤ, ◌≤ℤ◌, ◌<ℤ◌, sym, refl, ap, ◌∙◌, mod-lt, div-add-mod', arith, w32, SFits, nat_abs}
+use lib.Signed.{quot_z, rem_z}
+use Rattle.std.proofs.lemmas.Int.{ints}
 use Rattle.std.proofs.lemmas.Nat.{div-mul-add, mod-mul-add}
 use Rattle.division.specs.Floor.{quotient, remainder, Floors, FloorLaw}
 
@@ -55,32 +54,14 @@ from_above (negsuc a) m h le = at (suc a / m) refl
         let p = parts a m b (m - 1) (omega arith) f in
         (omega (arith, ints, p.0, e), omega (arith, ints, p.1, none))
 
--- all of these stay in the range of v
-quotient_fits : (w : Width) (v : ℤ) (m : ℕ) → SFits w v → SFits w (quotient v m)
-quotient_fits w (pos a) m f = record { sfits = omega (arith, div-le_self a m, f.sfits) }
-quotient_fits w (negsuc a) m f = record { sfits = omega (arith, div-le_self a m, f.sfits) }
+-- the same by a divisor above 0, with the fact that the remainder stays in range
+pub below : (v d : ℤ) → pos 0 <ℤ d → SFits w32 d → rem_z v d <ℤ pos 0 → (quot_z v d -ℤ pos 1 ≡ quotient v (nat_abs d)) × (rem_z v d +ℤ d ≡ pos (remainder v (nat_abs d))) × SFits w32 (pos (remainder v (nat_abs d)))
+below v (pos m) h f lt =
+    let some : 0 < m = omega (arith, ints, h) in
+    let p = from_below v m some lt in
+    (p.0, p.1, record { sfits = omega (arith, f.sfits, (floors v m some).low) })
+below v (negsuc m) h f lt = absurd (omega (arith, ints, h))
 
-quot_fits : (w : Width) (v : ℤ) (m : ℕ) → SFits w v → SFits w (quot_z v (pos m))
-quot_fits w (pos a) m f = record { sfits = omega (arith, div-le_self a m, f.sfits) }
-quot_fits w (negsuc a) m f =
-    record { sfits = omega (arith, ints, div-le_self (suc a) m, f.sfits) }
-
-rem_fits : (w : Width) (v : ℤ) (m : ℕ) → SFits w v → SFits w (rem_z v (pos m))
-rem_fits w v m f = record { sfits = omega (arith, mag_rem v (pos m), f.sfits) }
-
--- `v / m - 1` and `v % m + m` as the code computes them, where `v % m < 0`
-pub then : (w : Width) (v : ℤ) (m : ℕ) → 0 < m → SFits w v → SFits w (pos m) → lt_z (to_z w (of_z w (rem_z v (pos m)))) (pos 0) ≡ true → (to_z w (of_z w (to_z w (of_z w (quot_z v (pos m))) -ℤ pos 1)) ≡ quotient v m) × (to_z w (of_z w (to_z w (of_z w (rem_z v (pos m))) +ℤ pos m)) ≡ pos (remainder v m))
-then w v m h f fm t =
-    let q = to_z-of_z w (quot_z v (pos m)) (quot_fits w v m f) in
-    let s = to_z-of_z w (rem_z v (pos m)) (rem_fits w v m f) in
-    let p = from_below v m h (omega (arith, ints, simp s at t)) in
-    let fs : SFits w (pos (remainder v m)) = record { sfits = omega (arith, fm.sfits, (floors v m h).low) } in
-    (rw (q, p.0) (to_z-of_z w (quotient v m) (quotient_fits w v m f)), rw (s, p.1) (to_z-of_z w (pos (remainder v m)) fs))
-
--- and where it is not
-pub else : (w : Width) (v : ℤ) (m : ℕ) → 0 < m → SFits w v → SFits w (pos m) → lt_z (to_z w (of_z w (rem_z v (pos m)))) (pos 0) ≡ false → (to_z w (of_z w (quot_z v (pos m))) ≡ quotient v m) × (to_z w (of_z w (rem_z v (pos m))) ≡ pos (remainder v m))
-else w v m h f fm t =
-    let q = to_z-of_z w (quot_z v (pos m)) (quot_fits w v m f) in
-    let s = to_z-of_z w (rem_z v (pos m)) (rem_fits w v m f) in
-    let p = from_above v m h (omega (arith, ints, simp s at t)) in
-    (q ∙ p.0, s ∙ p.1)
+pub above : (v d : ℤ) → pos 0 <ℤ d → pos 0 ≤ℤ rem_z v d → (quot_z v d ≡ quotient v (nat_abs d)) × (rem_z v d ≡ pos (remainder v (nat_abs d)))
+above v (pos m) h le = from_above v m (omega (arith, ints, h)) le
+above v (negsuc m) h le = absurd (omega (arith, ints, h))

@@ -12,7 +12,8 @@ pub const ROW_WIDTH: usize = 72;
 // The most rows that a step or a close gives.
 pub const STEP_ROWS: usize = 4;
 
-// The width of a row and the most rows of a step, as the definitions have them.
+// The width of a row and the most rows of a step, as the definitions have them. Each such function ties one constant to its own
+// definition, so there is nothing that a generic one could share.
 pub fn row_width() -> usize
     ensures { result ≡ row_width }
 {
@@ -25,10 +26,11 @@ pub fn step_rows() -> usize
     STEP_ROWS
 }
 
-// Step and close write their rows to the front of such a buffer.
+// Step and close write their rows to the front of such a buffer and answer their number: no engine needs a heap.
 pub type RowBuffer = [u8; STEP_ROWS * ROW_WIDTH];
 
-// Why an engine refuses a line: one of the engine's causes, and the column at which it was seen.
+// Why an engine refuses a line: one of the engine's causes, and the column at which it was seen. A cause is a number and not an enum,
+// since every engine, a customer's too, has causes of its own.
 #[derive(Clone, Copy, PartialEq, Eq, Debug)]
 pub struct EngineFault {
     pub cause: u8,

@@ -1,4 +1,5 @@
 pub mod Letters
 pub mod Rows
 pub mod Numbering
+pub mod Answered
 pub mod Printing

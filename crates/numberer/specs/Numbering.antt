@@ -1,8 +1,7 @@
 -- The numberer, by what its states mean. Assumes nothing.
-use Rattle.std.specs.Prelude.{ℕ, cond, List, [], ℤ, pos, ◌+ℤ◌, unsigned_abs}
-use Rattle.std.specs.Int.Signed.{lt_z}
+use Rattle.std.specs.Prelude.{ℕ, cond, List, [], ℤ, pos, ◌+ℤ◌, int_lt, unsigned_abs}
 use Rattle.line.specs.Lines.{is_line}
-use Rattle.engine.specs.Model.{Model, Stepped, Stepped.goes, Stepped.refuses, no_line}
+use Rattle.engine.specs.Model.{Row, Model, Stepped, Stepped.goes, Stepped.refuses, no_line}
 use Rattle.division.specs.Floor.{quotient, remainder}
 use Rattle.directive.specs.Grammar.{Said, Said.text, Said.directive, Said.malformed, said}
 use Rattle.numberer.specs.declared.letter.NumberLetter.{NumberLetter}
@@ -24,10 +23,14 @@ meaning state = record { number = state.number; stops = unsigned_abs state.stops
 abbrev pub number_limit : ℤ
 number_limit = pos 100000
 
+-- the rows of a text line, with the turn and stop that its number means
+abbrev pub rows_at : Numbering → List ℕ → List Row
+rows_at m bytes = rows_of (quotient m.number m.stops) (remainder m.number m.stops) bytes
+
 -- a text line is printed with the turn and stop that its number means, and the number rises by one
 abbrev pub printed : Numbering → List ℕ → Stepped Numbering
 printed m bytes =
-    cond (lt_z m.number number_limit) (goes (record { number = m.number +ℤ pos 1; stops = m.stops }) (rows_of (quotient m.number m.stops) (remainder m.number m.stops) bytes)) (refuses 3 0)
+    cond (int_lt m.number number_limit) (goes (record { number = m.number +ℤ pos 1; stops = m.stops }) (rows_at m bytes)) (refuses 3 0)
 
 -- what a line says is done; directives give no rows
 abbrev pub obeyed : Numbering → Said NumberLetter → Stepped Numbering

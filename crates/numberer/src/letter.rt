@@ -1,6 +1,6 @@
 ghost use Rattle.numberer.specs.Letters.{spelled as spelled_of, takes as takes_of};
 
-use directive::{Argument, Letter, Takes};
+use directive::{Argument, Letter};
 
 // The numberer's letters: `.n` sets the number, `.m` the stops of a turn.
 #[derive(Clone, Copy, PartialEq, Eq, Debug)]
@@ -29,15 +29,15 @@ impl Letter for NumberLetter {
         }
     }
 
-    fn argument(self) -> Takes {
+    fn argument(self) -> Option<Argument> {
         match self {
-            NumberLetter::SetNumber => Takes::Number(Argument {
+            NumberLetter::SetNumber => Some(Argument {
                 minus: true,
                 digits: 5,
                 low: LOWEST_NUMBER,
                 high: HIGHEST_NUMBER,
             }),
-            NumberLetter::SetStops => Takes::Number(Argument {
+            NumberLetter::SetStops => Some(Argument {
                 minus: false,
                 digits: 3,
                 low: 1,

@@ -1,11 +1,13 @@
-ghost use Rattle.std.specs.Prelude.{◌≡◌, ◌<◌, ◌≤◌, ◌++◌, length, replicate, pos, ◌≤ℤ◌, ◌<ℤ◌, unsigned_abs};
-ghost use Rattle.std.specs.Int.Signed.{mag};
+ghost use Rattle.std.specs.Prelude.{◌≡◌, ◌≤◌, ◌++◌, length, replicate, pos};
 ghost use Rattle.line.specs.Lines.{line_limit};
 ghost use Rattle.engine.specs.Model.{row_width};
 ghost use Rattle.engine.specs.Promise.{fronted};
-ghost use Rattle.numberer.specs.Rows.{text_column, text_width, padded, row_of, rows_of};
+ghost use Rattle.division.specs.Floor.{quotient, remainder};
+ghost use Rattle.numberer.specs.Rows.{text_column, text_width, padded, row_of};
+ghost use Rattle.numberer.specs.Numbering.{meaning, rows_at};
 
-use division::FloorDivision;
+use crate::NumberState;
+use division::floor_div;
 use engine::{ROW_WIDTH, RowBuffer};
 use numerals::put_number;
 
@@ -22,22 +24,9 @@ const TEXT_COLUMN: usize = 12;
 
 const TEXT_WIDTH: usize = 60;
 
-// Turn, stop and text in their columns, and spaces between and behind them.
-fn set_first_row(row: &mut [u8], place: FloorDivision, text: &[u8])
-    requires size { length row.old ≡ row_width }
-    requires turn { mag place.quotient < 100000 }
-    requires stop { (pos 0 ≤ℤ place.remainder) × (place.remainder <ℤ pos 1000) }
-    requires short { length text.now ≤ text_width }
-    ensures { row.new ≡ row_of place.quotient place.remainder text.now }
-{
-    row.fill(b' ');
-    put_number(row, TURN_COLUMN, TURN_WIDTH, place.quotient).unwrap();
-    put_number(row, STOP_COLUMN, STOP_WIDTH, place.remainder).unwrap();
-    row[TEXT_COLUMN..TEXT_COLUMN + text.len()].copy_from_slice(text);
-}
-
-// The rest of a long text in its columns, with spaces before and behind it.
-fn set_second_row(row: &mut [u8], text: &[u8])
+// A text in its columns, and spaces before and behind it.
+#[tactic(auto, using(crate::proofs::Columns::texted))]
+fn set_text(row: &mut [u8], text: &[u8])
     requires size { length row.old ≡ row_width }
     requires short { length text.now ≤ text_width }
     ensures { row.new ≡ replicate text_column 32 ++ padded text_width text.now }
@@ -46,19 +35,29 @@ fn set_second_row(row: &mut [u8], text: &[u8])
     row[TEXT_COLUMN..TEXT_COLUMN + text.len()].copy_from_slice(text);
 }
 
-// The rows of a text line at the front of the buffer; the answer is their number.
-pub(super) fn print_rows(rows: &mut RowBuffer, place: FloorDivision, text: &[u8]) -> usize
-    requires turn { mag place.quotient < 100000 }
-    requires stop { (pos 0 ≤ℤ place.remainder) × (place.remainder <ℤ pos 1000) }
-    requires short { length text.now ≤ line_limit }
-    ensures count { result ≡ length (rows_of place.quotient (unsigned_abs place.remainder) text.now) }
-    ensures buffer { rows.new ≡ fronted (rows_of place.quotient (unsigned_abs place.remainder) text.now) rows.old }
+// The turn and stop of the state's number and a text in their columns, and spaces between and behind them.
+fn set_first_row(row: &mut [u8], state: NumberState, text: &[u8])
+    requires size { length row.old ≡ row_width }
+    requires short { length text.now ≤ text_width }
+    ensures { let m = meaning state in row.new ≡ row_of (quotient m.number m.stops) (pos (remainder m.number m.stops)) text.now }
 {
-    if text.len() <= TEXT_WIDTH {
-        set_first_row(&mut rows[0..ROW_WIDTH], place, text);
+    let place = floor_div(state.number, state.stops);
+    set_text(row, text);
+    put_number(row, TURN_COLUMN, TURN_WIDTH, place.quotient).unwrap();
+    put_number(row, STOP_COLUMN, STOP_WIDTH, place.remainder).unwrap();
+}
+
+// The rows of a text line at the front of the buffer; the answer is their number.
+pub(super) fn print_rows(rows: &mut RowBuffer, state: NumberState, text: &[u8]) -> usize
+    requires { length text.now ≤ line_limit }
+    ensures count { result ≡ length (rows_at (meaning state) text.now) }
+    ensures buffer { rows.new ≡ fronted (rows_at (meaning state) text.now) rows.old }
+{
+    let (first, rest) = text.split_at(TEXT_WIDTH.min(text.len()));
+    set_first_row(&mut rows[0..ROW_WIDTH], state, first);
+    if rest.is_empty() {
         return 1;
     }
-    set_first_row(&mut rows[0..ROW_WIDTH], place, &text[0..TEXT_WIDTH]);
-    set_second_row(&mut rows[ROW_WIDTH..2 * ROW_WIDTH], &text[TEXT_WIDTH..]);
+    set_text(&mut rows[ROW_WIDTH..2 * ROW_WIDTH], rest);
     2
 }

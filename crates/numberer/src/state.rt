@@ -3,7 +3,7 @@ ghost use Rattle.std.specs.Prelude.{pos, negsuc, ◌≤ℤ◌};
 use division::Divisor;
 
 // The number of the next text line, and the stops of a turn.
-#[derive(Clone, Copy)]
+#[derive(Clone, Copy, PartialEq, Eq, Debug)]
 pub struct NumberState {
     pub(super) number: i32,
     pub(super) stops: Divisor,

@@ -29,13 +29,7 @@ pub fn integer(text: &[u8], minus: bool, most: usize) -> Option<i32>
     ensures back { ReadsBack }
 {
     match text {
-        [b'-', digits @ ..] if minus => {
-            let value = natural(digits, most)?;
-            Some(-(value as i32))
-        }
-        _ => {
-            let value = natural(text, most)?;
-            Some(value as i32)
-        }
+        [b'-', digits @ ..] if minus => Some(-(natural(digits, most)? as i32)),
+        _ => Some(natural(text, most)? as i32),
     }
 }

@@ -1,27 +1,24 @@
-use Rattle.std.proofs.Common.{◌≡◌, ◌<◌, pos, nat_abs, arith, w32, SFits, to_z, of_z}
-use Rattle.std.proofs.lemmas.Int.{ints, to_z-of_z}
-use Rattle.division.proofs.TowardZero as toward_zero
+use Rattle.std.proofs.Common.{◌<◌, pos, ◌<ℤ◌, ◌≤ℤ◌, nat_abs, arith, w32, SFits, rules}
+use lib.Signed.{rem_z}
+use Rattle.std.proofs.lemmas.Int.{ints}
+use Rattle.division.proofs.TowardZero.{floors, below, above, law}
 use Rattle.division.proofs.floor_div.Goals as goal
 
--- In each answer the two casts are taken away (e, k), and the lemma on division toward zero says the rest.
 pub returns-then-remainder-lt0 : goal.returns-then-remainder-lt0
 returns-then-remainder-lt0 c =
     let v = c.args.v in
-    let m = nat_abs c.args.by.value in
-    let some : 0 < m = omega (arith, ints, c.args.by.positive) in
-    let e : to_z w32 (of_z w32 v) ≡ v = to_z-of_z w32 v c.ranges.v in
-    let k : to_z w32 (of_z w32 c.value-m.result) ≡ pos m = omega (arith, ints, c.args.by.positive) in
-    let f : SFits w32 (pos m) = omega (arith, ints, c.args.by.positive) in
-    let p = toward_zero.then w32 v m some c.ranges.v f (simp (e, k) at c.if-remainder-lt0.true) in
-    record { quotient = simp (e, k, p.0); remainder = simp (e, k, p.1); floors = simp (e, k, p.0, p.1) (toward_zero.floors v m some); only = toward_zero.law }
+    let d = c.args.by.value in
+    let some : 0 < nat_abs d = omega (arith, ints, c.args.by.positive) in
+    let f : SFits w32 d = search rules in
+    let lt : rem_z v d <ℤ pos 0 = search rules in
+    let p = below v d c.args.by.positive f lt in
+    record { quotient = search rules; remainder = search rules; floors = search (rules, floors v (nat_abs d) some); only = law }
 
 pub returns-else-remainder-lt0 : goal.returns-else-remainder-lt0
 returns-else-remainder-lt0 c =
     let v = c.args.v in
-    let m = nat_abs c.args.by.value in
-    let some : 0 < m = omega (arith, ints, c.args.by.positive) in
-    let e : to_z w32 (of_z w32 v) ≡ v = to_z-of_z w32 v c.ranges.v in
-    let k : to_z w32 (of_z w32 c.value-m.result) ≡ pos m = omega (arith, ints, c.args.by.positive) in
-    let f : SFits w32 (pos m) = omega (arith, ints, c.args.by.positive) in
-    let p = toward_zero.else w32 v m some c.ranges.v f (simp (e, k) at c.if-remainder-lt0.false) in
-    record { quotient = simp (e, k, p.0); remainder = simp (e, k, p.1); floors = simp (e, k, p.0, p.1) (toward_zero.floors v m some); only = toward_zero.law }
+    let d = c.args.by.value in
+    let some : 0 < nat_abs d = omega (arith, ints, c.args.by.positive) in
+    let le : pos 0 ≤ℤ rem_z v d = search rules in
+    let p = above v d c.args.by.positive le in
+    record { quotient = search rules; remainder = search rules; floors = search (rules, floors v (nat_abs d) some); only = law }

@@ -1,9 +1,9 @@
-use Rattle.std.proofs.Common.{arith}
+use Rattle.std.proofs.Common.{◌≡◌, pos, arith}
 use Rattle.std.proofs.lemmas.Int.{ints}
-use Rattle.numberer.specs.Printing.{made_of}
+use Rattle.std.proofs.lemmas.Option.{MatchOption-at_some}
 use Rattle.numberer.proofs.NumbererEngine.start.Goals as goal
 
-pub invariant_of-result : goal.invariant_of-result
-invariant_of-result c =
-    let v = made_of c.new.result c.unwrap.result _ _ c.unwrap.ensures c.new.ensures in
-    record { low = omega (arith, ints); high = omega (arith, ints); few = omega (arith, ints) }
+pub invariant_of-result-clause-few : goal.invariant_of-result-clause-few
+invariant_of-result-clause-few c =
+    let v : c.unwrap.result.value ≡ pos 22 = MatchOption-at_some _ (λ d. d.value ≡ pos 22) c.unwrap.result c.unwrap.ensures c.new.ensures in
+    omega (arith, ints)
