@@ -1,3 +1,4 @@
 mod Sounds
 mod Frees
-mod TakenOver
+mod Faults
+mod Meeting

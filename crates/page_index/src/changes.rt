@@ -1,12 +1,12 @@
-ghost use Rattle.std.specs.Prelude.{◌≡◌, ℕ, ◌+◌, ◌-◌, ◌<◌, ◌≤◌, ◌⊎◌, List, [], length, None as NoFault, Decides, MatchOption};
+ghost use Rattle.std.specs.Prelude.{◌≡◌, ℕ, ◌+◌, ◌-◌, ◌<◌, ◌≤◌, ◌⊎◌, List, length, None as NoFault, Decides, MatchOption};
 ghost use Rattle.line.specs.Stores.{place_fault, store_limit};
-ghost use Rattle.page_table.specs.declared.state.Phase.TheVariants.{Edited as is_edited, Resumed as is_resumed, Settled as is_settled};
-ghost use Rattle.page_table.specs.Indexes.{index_of, way_of};
-ghost use Rattle.page_table.specs.Changes.{items_after, numbers_after, TakesEdit, after_edit, Begins, in_phase, kept_at};
-ghost use Rattle.page_index.specs.Promise.{FillGives, ChangeGives, BeginGives, edit_of, Keeps};
+ghost use Rattle.page_table.specs.declared.state.Phase.TheVariants.{Edited as is_edited, Settled as is_settled};
+ghost use Rattle.page_table.specs.Indexes.{index_of};
+ghost use Rattle.page_table.specs.Changes.{items_after, numbers_after, Begins};
+ghost use Rattle.page_index.specs.Promise.{FillGives, EditGives, BeginGives, KeepGives, AbandonGives, edit_of};
 
 use super::fault::PageSetFault;
-use super::index::{NO_WAY, PageIndex};
+use super::index::{FROM_START, PageIndex};
 use line::{LineStore, STORE_LIMIT};
 use page_rule::Marks;
 use page_table::{MOST_PLACES, Numbers, Phase, Way};
@@ -26,38 +26,21 @@ fn numbers_after(numbers: Numbers, edit: LineEdit) -> Option<Numbers>
     ensures { (line : List ℕ) → MatchOption result ((place_fault (numbers.items_now - 1) (edit_of edit line) ≡ NoFault) × (items_after numbers.items_now (edit_of edit line) ≤ store_limit + 1) → ⊥) (λ n. (n ≡ numbers_after numbers (edit_of edit line)) × (place_fault (numbers.items_now - 1) (edit_of edit line) ≡ NoFault) × (items_after numbers.items_now (edit_of edit line) ≤ store_limit + 1)) }
 {
     let lines = numbers.items_now - 1;
-    let items_then = numbers.items_then;
     match edit {
-        LineEdit::Replace(at) => {
-            if at >= lines {
-                return None;
-            }
-            Some(Numbers {
-                items_then,
-                items_now: lines + 1,
-                marks: numbers.marks.after_replace(lines, at),
-            })
-        }
-        LineEdit::Insert(at) => {
-            if at > lines || lines >= STORE_LIMIT {
-                return None;
-            }
-            Some(Numbers {
-                items_then,
-                items_now: lines + 2,
-                marks: numbers.marks.after_insert(lines, at),
-            })
-        }
-        LineEdit::Remove(at) => {
-            if at >= lines {
-                return None;
-            }
-            Some(Numbers {
-                items_then,
-                items_now: lines,
-                marks: numbers.marks.after_remove(lines, at),
-            })
-        }
+        LineEdit::Replace(at) => (at < lines).then_some(Numbers {
+            marks: numbers.marks.after_replace(lines, at),
+            ..numbers
+        }),
+        LineEdit::Insert(at) => (at <= lines && lines < STORE_LIMIT).then_some(Numbers {
+            items_now: numbers.items_now + 1,
+            marks: numbers.marks.after_insert(lines, at),
+            ..numbers
+        }),
+        LineEdit::Remove(at) => (at < lines).then_some(Numbers {
+            items_now: lines,
+            marks: numbers.marks.after_remove(lines, at),
+            ..numbers
+        }),
     }
 }
 
@@ -94,29 +77,22 @@ impl PageIndex {
     fn takes_edits(&self) -> bool
         ensures { Decides result ((self.now.table.phase ≡ is_edited) ⊎ (self.now.table.phase ≡ is_settled)) }
     {
-        match self.table.phase {
-            Phase::Edited => true,
-            Phase::Settled => true,
-            Phase::Unfilled => false,
-            Phase::Resumed(_) => false,
-        }
+        matches!(self.table.phase, Phase::Edited | Phase::Settled)
     }
 
     // An edit was made: the numbers are those after it, and the session is edited.
     pub fn note_edit(&mut self, edit: LineEdit) -> Result<(), PageSetFault>
-        ensures { (line : List ℕ) → ChangeGives (TakesEdit (index_of self.old.table) (edit_of edit line)) (index_of self.old.table) (after_edit (index_of self.old.table) (edit_of edit line)) result (index_of self.new.table) }
+        ensures { (line : List ℕ) → EditGives (index_of self.old.table) (edit_of edit line) result (index_of self.new.table) }
     {
         if !self.takes_edits() {
             return Err(self.misfit());
         }
-        match numbers_after(self.table.numbers, edit) {
-            None => Err(self.misfit()),
-            Some(numbers) => {
-                self.table.numbers = numbers;
-                self.table.phase = Phase::Edited;
-                Ok(())
-            }
-        }
+        let Some(numbers) = numbers_after(self.table.numbers, edit) else {
+            return Err(self.misfit());
+        };
+        self.table.numbers = numbers;
+        self.table.phase = Phase::Edited;
+        Ok(())
     }
 
     // Where to begin again.
@@ -125,17 +101,17 @@ impl PageIndex {
     {
         let head = self.table.numbers.marks.head;
         if head == 0 {
-            return NO_WAY;
+            return FROM_START;
         }
-        match self.page_holding(head - 1) {
-            None => NO_WAY,
-            Some(at) => Way {
-                restart: at.number,
-                start: at.page.first,
-                made: 0,
-                next: at.page.first,
-                kept: Some(at.page.place),
-            },
+        let Some(at) = self.page_holding(head - 1) else {
+            return FROM_START;
+        };
+        Way {
+            restart: at.number,
+            start: at.page.first,
+            made: 0,
+            next: at.page.first,
+            kept: Some(at.page.place),
         }
     }
 
@@ -153,7 +129,7 @@ impl PageIndex {
 
     // The state before the next item lies at a place.
     pub fn keep_state(&mut self, place: usize) -> Result<(), PageSetFault>
-        ensures { ChangeGives (Keeps (index_of self.old.table) place) (index_of self.old.table) (in_phase (index_of self.old.table) (is_resumed (kept_at (way_of self.old.table.phase) place)) (index_of self.old.table).made) result (index_of self.new.table) }
+        ensures { KeepGives (index_of self.old.table) place result (index_of self.new.table) }
     {
         let Phase::Resumed(way) = self.table.phase else {
             return Err(self.misfit());
@@ -162,18 +138,15 @@ impl PageIndex {
             return Err(self.misfit());
         }
         self.table.phase = Phase::Resumed(Way {
-            restart: way.restart,
-            start: way.start,
-            made: way.made,
-            next: way.next,
             kept: Some(place),
+            ..way
         });
         Ok(())
     }
 
     // Drops what is under way: the session is edited again, with the pages and the numbers that it had.
     pub fn abandon(&mut self) -> Result<(), PageSetFault>
-        ensures { ChangeGives (self.old.table.phase ≡ is_resumed (way_of self.old.table.phase)) (index_of self.old.table) (in_phase (index_of self.old.table) is_edited []) result (index_of self.new.table) }
+        ensures { AbandonGives (index_of self.old.table) result (index_of self.new.table) }
     {
         let Phase::Resumed(_way) = self.table.phase else {
             return Err(self.misfit());

@@ -16,14 +16,11 @@ pub enum PageSetFault {
 
 impl PageSetFault {
     // The layer of the fault.
+    #[tactic(auto, using(crate::proofs::Faults::one_layer))]
     pub fn layer(&self) -> Layer
         ensures { result ≡ (refusal self.now).layer }
     {
-        match self {
-            PageSetFault::Misfit { .. } => Layer::Session,
-            PageSetFault::NotThere { .. } => Layer::Session,
-            PageSetFault::BadPlaces { .. } => Layer::Session,
-        }
+        Layer::Session
     }
 
     // The number of the fault.

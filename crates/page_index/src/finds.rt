@@ -1,7 +1,8 @@
 ghost use Rattle.std.specs.Prelude.{◌≡◌, true, length, is_some};
+ghost use Rattle.std.specs.Fn.{FnReturnsAt};
 ghost use Rattle.page_table.specs.Indexes.{index_of};
 ghost use Rattle.page_table.specs.Free.{NeedsPlace};
-ghost use Rattle.page_index.specs.Promise.{PageGives, HolderGives, BeginnerGives, FreeGives};
+ghost use Rattle.page_index.specs.Promise.{PageGives, HolderGives, BeginnerGives, FreeGives, FirstGives};
 
 use super::fault::PageSetFault;
 use super::index::PageIndex;
@@ -24,6 +25,18 @@ pub struct PageAt {
     pub page: PageEntry,
 }
 
+// The first page that meets a condition.
+fn first_page<F: Fn(&PageEntry) -> bool>(pages: &[PageEntry], meets: F) -> Option<PageAt>
+    requires { F.IsAlwaysCallable meets }
+    ensures { FirstGives pages.now (FnReturnsAt F.Fn meets) result }
+{
+    let number = pages.iter().position(|page| meets(page))?;
+    Some(PageAt {
+        number,
+        page: pages[number],
+    })
+}
+
 impl PageIndex {
     pub fn state(&self) -> IndexState
         ensures { result ≡ record { places = (index_of self.now.table).places; pages = length (index_of self.now.table).pages; numbers = (index_of self.now.table).numbers; phase = (index_of self.now.table).phase } }
@@ -40,37 +53,25 @@ impl PageIndex {
     pub fn page(&self, number: usize) -> Result<PageEntry, PageSetFault>
         ensures { PageGives (index_of self.now.table) number result }
     {
-        if number < self.table.count {
-            Ok(self.table.pages[number])
-        } else {
-            Err(PageSetFault::NotThere { asked: number })
-        }
+        let page = self.pages().get(number).copied();
+        page.ok_or(PageSetFault::NotThere { asked: number })
     }
 
     // The page that holds an item.
     pub fn page_holding(&self, item: usize) -> Option<PageAt>
         ensures { HolderGives (index_of self.now.table) item result }
     {
-        for number in 0..self.table.count {
-            let page = self.table.pages[number];
-            if item < page.first + page.items {
-                return Some(PageAt { number, page });
-            }
-        }
-        None
+        first_page(
+            self.pages(),
+            |page| page.first <= item && item - page.first < page.items,
+        )
     }
 
     // The page that begins at an item.
     pub fn page_from(&self, item: usize) -> Option<PageAt>
         ensures { BeginnerGives (index_of self.now.table) item result }
     {
-        for number in 0..self.table.count {
-            let page = self.table.pages[number];
-            if page.first == item {
-                return Some(PageAt { number, page });
-            }
-        }
-        None
+        first_page(self.pages(), |page| page.first == item)
     }
 
     // The lowest free place; there is one wherever one more page may be made.
@@ -78,11 +79,9 @@ impl PageIndex {
         ensures place { FreeGives (index_of self.now.table) result }
         ensures room { NeedsPlace (index_of self.now.table) → is_some result ≡ true }
     {
-        let count = self.table.count;
-        let made = self.way().made;
         let mut used = [false; MOST_PLACES];
-        mark_places(&self.table.pages[0..count], &mut used);
-        mark_places(&self.table.made[0..made], &mut used);
+        mark_places(self.pages(), &mut used);
+        mark_places(self.made(), &mut used);
         first_unused(&used, self.table.places)
     }
 }

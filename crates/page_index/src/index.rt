@@ -1,12 +1,13 @@
 ghost use Rattle.std.specs.Prelude.{◌≡◌};
-ghost use Rattle.page_table.specs.Indexes.{index_of, way_of};
+ghost use Rattle.page_table.specs.Indexes.{index_of};
 ghost use Rattle.page_table.specs.Sound.{Stored, Sound};
 ghost use Rattle.page_table.specs.Changes.{unfilled};
 
 use page_rule::Marks;
 use page_table::{MOST_PAGES, Numbers, PageEntry, PageTable, Phase, Way};
 
-// The pages of a session with their places, the pages under way, and the session's numbers.
+// The pages of a session with their places, the pages under way, and the session's numbers. There is no `impl Model`: a model of a `Copy`
+// type needs an inverse, and the entries behind the counts are in no view.
 #[derive(Clone, Copy)]
 pub struct PageIndex {
     pub(super) table: PageTable,
@@ -21,7 +22,8 @@ const BLANK: PageEntry = PageEntry {
     place: 0,
 };
 
-pub(super) const NO_WAY: Way = Way {
+// Where a session begins again that has no page to begin at.
+pub(super) const FROM_START: Way = Way {
     restart: 0,
     start: 0,
     made: 0,
@@ -49,13 +51,20 @@ impl PageIndex {
         PageIndex { table }
     }
 
-    // How far a resumed session has come.
-    pub(super) fn way(&self) -> Way
-        ensures { result ≡ way_of self.now.table.phase }
+    // The pages that stand.
+    pub(super) fn pages(&self) -> &[PageEntry]
+        ensures { result.now ≡ (index_of self.now.table).pages }
     {
-        match self.table.phase {
-            Phase::Resumed(way) => way,
-            _ => NO_WAY,
-        }
+        &self.table.pages[0..self.table.count]
+    }
+
+    // The pages under way; there are some only while a session is resumed.
+    pub(super) fn made(&self) -> &[PageEntry]
+        ensures { result.now ≡ (index_of self.now.table).made }
+    {
+        let Phase::Resumed(way) = self.table.phase else {
+            return &self.table.made[0..0];
+        };
+        &self.table.made[0..way.made]
     }
 }

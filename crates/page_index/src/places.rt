@@ -1,25 +1,20 @@
-ghost use Rattle.std.specs.Prelude.{◌≡◌, ℕ, ◌<◌, ◌≤◌, true, false, ◌||◌, Some, MatchOption, nat_lt, slice_index_or};
-ghost use Rattle.page_table.specs.Indexes.{users};
+ghost use Rattle.std.specs.Prelude.{◌≡◌, ℕ, ◌<◌, ◌≤◌, true, false, ◌||◌, ◌==◌, Some, MatchOption, slice_index_or};
+ghost use Rattle.std.specs.List.{list_any};
 ghost use Rattle.page_table.specs.Sound.{most_places, Within};
 
 use page_table::{MOST_PLACES, PageEntry};
 
 // Whether one of the pages has the place.
 pub(super) fn has_place(entries: &[PageEntry], place: usize) -> bool
-    ensures { result ≡ nat_lt 0 (users entries.now place) }
+    ensures { result ≡ list_any (λ p. p.place == place) entries.now }
 {
-    for page in entries {
-        if page.place == place {
-            return true;
-        }
-    }
-    false
+    entries.iter().any(|page| page.place == place)
 }
 
 // Marks the places of the pages as used.
 pub(super) fn mark_places(entries: &[PageEntry], used: &mut [bool; MOST_PLACES])
     requires { Within most_places entries.now }
-    ensures { (x : ℕ) → x < most_places → slice_index_or used.new x false ≡ (slice_index_or used.old x false || nat_lt 0 (users entries.now x)) }
+    ensures { (x : ℕ) → x < most_places → slice_index_or used.new x false ≡ (slice_index_or used.old x false || list_any (λ p. p.place == x) entries.now) }
 {
     for page in entries {
         used[page.place] = true;
@@ -31,10 +26,5 @@ pub(super) fn first_unused(used: &[bool; MOST_PLACES], places: usize) -> Option<
     requires { places ≤ most_places }
     ensures { MatchOption result ((x : ℕ) → x < places → slice_index_or used.now x false ≡ true) (λ x. (x < places) × (slice_index_or used.now x false ≡ false) × ((y : ℕ) → y < x → slice_index_or used.now y false ≡ true)) }
 {
-    for place in 0..places {
-        if !used[place] {
-            return Some(place);
-        }
-    }
-    None
+    used.iter().take(places).position(|taken| !*taken)
 }

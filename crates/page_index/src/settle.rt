@@ -1,11 +1,12 @@
 ghost use Rattle.std.specs.Prelude.{◌≡◌, ◌+◌, ◌-◌, ◌<◌, ◌≤◌, length, take, drop, Decides};
+ghost use Rattle.page_table.specs.declared.state.Phase.TheVariants.{Resumed as is_resumed};
 ghost use Rattle.page_table.specs.Indexes.{index_of, way_of};
 ghost use Rattle.page_table.specs.Free.{Free};
 ghost use Rattle.std.proofs.Math.Seq.{paste};
 ghost use Rattle.page_table.specs.Settled.{settled};
 ghost use Rattle.page_index.specs.Tables.{Movable, taken_over};
-ghost use Rattle.page_table.specs.Changes.{Admits, added};
-ghost use Rattle.page_index.specs.Promise.{ChangeGives, Adds};
+ghost use Rattle.page_table.specs.Changes.{Admits};
+ghost use Rattle.page_index.specs.Promise.{AddGives};
 
 use super::fault::PageSetFault;
 use super::index::PageIndex;
@@ -13,39 +14,35 @@ use super::places::has_place;
 use page_rule::{Marks, PAGE_ROWS};
 use page_table::{MOST_PAGES, Numbers, PageEntry, PageTable, Phase, Way};
 
-// The pages from `over` on, of so many, with their first items moved as the end has moved, behind the first `made` pages under way.
+// The pages from `over` on, with their first items moved as the end has moved, behind the first `made` pages under way. `made` and `over`
+// are numbers, and the entries are written by them: a part with a start of an array behind a lent reference gets no generated proof, and
+// nothing is known of what an adapter of `iter_mut` wrote.
 fn move_taken(
     under_way: &mut [PageEntry],
     made: usize,
     pages: &[PageEntry],
     over: usize,
-    count: usize,
     numbers: Numbers,
 )
-    requires over { over ≤ count }
-    requires count { count ≤ length pages.now }
-    requires room { made + (count - over) ≤ length under_way.old }
-    requires first { Movable numbers (drop over (take count pages.now)) }
-    ensures { under_way.new ≡ paste under_way.old made (taken_over numbers (drop over (take count pages.now))) (count - over) }
+    requires over { over ≤ length pages.now }
+    requires room { made + (length pages.now - over) ≤ length under_way.old }
+    requires first { Movable numbers (drop over pages.now) }
+    ensures { under_way.new ≡ paste under_way.old made (taken_over numbers (drop over pages.now)) (length pages.now - over) }
 {
-    for k in over..count {
-        let page = pages[k];
-        under_way[made + (k - over)] = PageEntry {
+    for (k, page) in pages[over..].iter().enumerate() {
+        under_way[made + k] = PageEntry {
             first: page.first + numbers.items_now - numbers.items_then,
-            items: page.items,
-            rows: page.rows,
-            place: page.place,
+            ..*page
         };
     }
 }
 
-// The first `all` pages under way, from page number `restart` on.
-fn put_made(pages: &mut [PageEntry], restart: usize, under_way: &[PageEntry], all: usize)
-    requires room { restart + all ≤ length pages.old }
-    requires there { all ≤ length under_way.now }
-    ensures { pages.new ≡ paste pages.old restart under_way.now all }
+// Pages that were under way, from page number `restart` on.
+fn put_made(pages: &mut [PageEntry], restart: usize, made: &[PageEntry])
+    requires { restart + length made.now ≤ length pages.old }
+    ensures { pages.new ≡ paste pages.old restart made.now (length made.now) }
 {
-    pages[restart..restart + all].copy_from_slice(&under_way[0..all]);
+    pages[restart..restart + made.len()].copy_from_slice(made);
 }
 
 // The first `made` pages under way, and the pages from `over` on, take the place of the pages from the restart page on.
@@ -63,12 +60,11 @@ fn settle_table(table: &mut PageTable, restart: usize, made: usize, over: usize)
     move_taken(
         &mut table.made,
         made,
-        &table.pages,
+        &table.pages[..table.count],
         over,
-        table.count,
         table.numbers,
     );
-    put_made(&mut table.pages, restart, &table.made, all);
+    put_made(&mut table.pages, restart, &table.made[..all]);
     let items_now = table.numbers.items_now;
     table.count = restart + all;
     table.numbers = Numbers {
@@ -84,49 +80,43 @@ impl PageIndex {
     fn is_free(&self, place: usize) -> bool
         ensures { Decides result (Free (index_of self.now.table) place) }
     {
-        let count = self.table.count;
-        let made = self.way().made;
-        let stands = has_place(&self.table.pages[0..count], place);
-        let under_way = has_place(&self.table.made[0..made], place);
-        (place < self.table.places) & !stands & !under_way
+        place < self.table.places
+            && !has_place(self.pages(), place)
+            && !has_place(self.made(), place)
     }
 
     // Whether a page may be made next.
-    fn admits(&self, items: usize, rows: usize, place: usize) -> bool
-        ensures { Decides result (Admits (index_of self.now.table) (way_of self.now.table.phase) items rows place) }
+    fn admits(&self, way: Way, page: PageEntry) -> bool
+        requires { self.now.table.phase ≡ is_resumed way }
+        ensures { Decides result (Admits (index_of self.now.table) way page.items page.rows page.place) }
     {
-        let Phase::Resumed(way) = self.table.phase else {
-            return false;
-        };
         way.restart + way.made < self.table.places / 2
-            && 0 < items
-            && rows <= PAGE_ROWS
-            && self.is_free(place)
+            && 0 < page.items
+            && page.rows <= PAGE_ROWS
+            && self.is_free(page.place)
     }
 
     // One page more is under way, at a free place; it is not the last one.
     pub fn add_page(&mut self, items: usize, rows: usize, place: usize) -> Result<(), PageSetFault>
-        ensures { ChangeGives (Adds (index_of self.old.table) items rows place) (index_of self.old.table) (added (index_of self.old.table) (way_of self.old.table.phase) items rows place) result (index_of self.new.table) }
+        ensures { AddGives (index_of self.old.table) items rows place result (index_of self.new.table) }
     {
-        let way = self.way();
-        if !self.admits(items, rows, place) {
+        let Phase::Resumed(way) = self.table.phase else {
             return Err(self.misfit());
-        }
-        if items >= self.table.numbers.items_now - way.next {
-            return Err(self.misfit());
-        }
-        self.table.made[way.made] = PageEntry {
+        };
+        let page = PageEntry {
             first: way.next,
             items,
             rows,
             place,
         };
+        if !self.admits(way, page) || items >= self.table.numbers.items_now - way.next {
+            return Err(self.misfit());
+        }
+        self.table.made[way.made] = page;
         self.table.phase = Phase::Resumed(Way {
-            restart: way.restart,
-            start: way.start,
             made: way.made + 1,
             next: way.next + items,
-            kept: way.kept,
+            ..way
         });
         Ok(())
     }

@@ -32,7 +32,7 @@ module _ {M : Type 0} (e : Model M) where
 
   -- from item j on, where there is such an item
   steps_from : {lines : List Line} {more q j : ℕ} {s : M} {f : Formatted M} → Paged e lines more q j s f → j ≤ length lines → f.ending ≡ complete → j + all_steps (length lines) f.pages ≡ length lines + length f.pages
-  steps_from Paged.over h c = let z : ◌≡◌ {A = ℕ} 0 1 = cc in absurd (omega arith)
+  steps_from Paged.over h c = cc
   steps_from {lines} (Paged.at_last {j = j} {items = items} {s = s} {rows = rows} f) h c =
       let n = counted lines j s (last items rows) f in
       let d = length-drop j lines in
@@ -45,7 +45,7 @@ module _ {M : Type 0} (e : Model M) where
       let b : leb (j + items) (length lines) ≡ true = le-leb (j + items) (length lines) w in
       let i = steps_from r w c in
       simp b (omega arith)
-  steps_from (Paged.at_stuck f) h c = let z : ◌≡◌ {A = ℕ} 0 1 = cc in absurd (omega arith)
+  steps_from (Paged.at_stuck f) h c = cc
 
 pub steps_law : {M : Type 0} (e : Model M) → StepsLaw e
 steps_law e limit lines c = let i = steps_from e (paged e lines limit 0 0 e.start) (omega arith) c in omega arith

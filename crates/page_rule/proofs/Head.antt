@@ -26,8 +26,8 @@ same_all (suc h) (x ∷ xs) = (refl, same_all h xs)
 same_lines : (h : ℕ) (xs ys : List Line) → take h xs ≡ take h ys → Same h xs ys
 same_lines zero xs ys t = tt
 same_lines (suc h) [] [] t = tt
-same_lines (suc h) [] (y ∷ ys) t = let z : ◌≡◌ {A = ℕ} 0 1 = cc in omega arith
-same_lines (suc h) (x ∷ xs) [] t = let z : ◌≡◌ {A = ℕ} 0 1 = cc in omega arith
+same_lines (suc h) [] (y ∷ ys) t = cc
+same_lines (suc h) (x ∷ xs) [] t = cc
 same_lines (suc h) (x ∷ xs) (y ∷ ys) t = (cc, same_lines h xs ys (cc))
 
 same_drop : (j h : ℕ) (xs ys : List Line) → Same (j + h) xs ys → Same h (drop j xs) (drop j ys)
@@ -73,19 +73,19 @@ module _ {M : Type 0} (e : Model M) where
 
   -- no page begins before the item that the pages are from
   firsts : {old : List Line} {more q j : ℕ} {s : M} {f : Formatted M} → Paged e old more q j s f → (k : ℕ) (p : Page M) → slice_get f.pages k ≡ Some p → j ≤ p.first
-  firsts Paged.over k p g = let z : ◌≡◌ {A = ℕ} 0 1 = cc in absurd (omega arith)
+  firsts Paged.over k p g = cc
   firsts (Paged.at_last {j = j} h) zero p g = let z : j ≡ p.first = cc in omega arith
-  firsts (Paged.at_last h) (suc k) p g = let z : ◌≡◌ {A = ℕ} 0 1 = cc in absurd (omega arith)
+  firsts (Paged.at_last h) (suc k) p g = cc
   firsts (Paged.at_full {j = j} h r) zero p g = let z : j ≡ p.first = cc in omega arith
   firsts (Paged.at_full h r) (suc k) p g = let z = firsts r k p g in omega arith
-  firsts (Paged.at_stuck h) k p g = let z : ◌≡◌ {A = ℕ} 0 1 = cc in absurd (omega arith)
+  firsts (Paged.at_stuck h) k p g = cc
 
   module _ (old now : List Line) (h : ℕ) (same : Same h now old) where
     head_from : {more q j : ℕ} {s : M} {f : Formatted M} → Paged e old more q j s f → (k : ℕ) (p : Page M) → slice_get f.pages k ≡ Some p → p.first < h
         → pages_from e more q j s now ≡ onto (take k f.pages) (pages_from e (more - k) (q + k) p.first p.checkpoint now)
-    head_from Paged.over k p g b = let z : ◌≡◌ {A = ℕ} 0 1 = cc in absurd (omega arith)
+    head_from Paged.over k p g b = cc
     head_from (Paged.at_last {more = more} {q = q} {j = j} {s = s} is) zero p g b = same_from now (suc more) q j s (suc more - 0) (q + 0) p.first p.checkpoint (omega arith) (omega arith) (cc) (cc)
-    head_from (Paged.at_last is) (suc k) p g b = let z : ◌≡◌ {A = ℕ} 0 1 = cc in absurd (omega arith)
+    head_from (Paged.at_last is) (suc k) p g b = cc
     head_from (Paged.at_full {more = more} {q = q} {j = j} {s = s} is r) zero p g b = same_from now (suc more) q j s (suc more - 0) (q + 0) p.first p.checkpoint (omega arith) (omega arith) (cc) (cc)
     head_from (Paged.at_full {more = more} {q = q} {j = j} {items = items} {s = s} {t = t} {rows = rows} {f = f} is r) (suc k) p g b =
         let l = firsts r k p g in
@@ -94,20 +94,20 @@ module _ {M : Type 0} (e : Model M) where
         from_full e now more q j items s t rows (fill_same (drop j old) (drop j now) s (full items rows t) (h - j) is d (omega arith))
         ∙ ap (onto (page j items rows s ∷ [])) (head_from r k p g b
         ∙ ap (onto (take k f.pages)) (same_from now (more - k) (suc q + k) p.first p.checkpoint (suc more - suc k) (q + suc k) p.first p.checkpoint (omega arith) (omega arith) refl refl))
-    head_from (Paged.at_stuck is) k p g b = let z : ◌≡◌ {A = ℕ} 0 1 = cc in absurd (omega arith)
+    head_from (Paged.at_stuck is) k p g b = cc
 
 -- where page q stands, after the pages in front of it and some others
 after_front : {M : Type 0} (ps more : List (Page M)) (q : ℕ) (p : Page M) → slice_get ps q ≡ Some p → (take q (take q ps ++ more) ≡ take q ps) × (slice_get (take q ps ++ more) q ≡ slice_get more 0)
-after_front [] more q p g = let z : ◌≡◌ {A = ℕ} 0 1 = cc in absurd (omega arith)
+after_front [] more q p g = cc
 after_front (x ∷ ps) more zero p g = (refl, refl)
 after_front (x ∷ ps) more (suc q) p g = let i = after_front ps more q p g in (ap (λ l. x ∷ l) i.0, i.1)
 
 -- the first of the pages from an item and a state on begins there
 first_page : {M : Type 0} (e : Model M) {lines : List Line} {more q j : ℕ} {s : M} {f : Formatted M} → Paged e lines more q j s f → (p : Page M) → slice_get f.pages 0 ≡ Some p → (p.first ≡ j) × (p.checkpoint ≡ s)
-first_page e Paged.over p g = let z : ◌≡◌ {A = ℕ} 0 1 = cc in absurd (omega arith)
+first_page e Paged.over p g = cc
 first_page e (Paged.at_last h) p g = (cc, cc)
 first_page e (Paged.at_full h r) p g = (cc, cc)
-first_page e (Paged.at_stuck h) p g = let z : ◌≡◌ {A = ℕ} 0 1 = cc in absurd (omega arith)
+first_page e (Paged.at_stuck h) p g = cc
 
 pub head_law : {M : Type 0} (e : Model M) → HeadLaw e
 head_law {M} e limit h old now q kept same there b =

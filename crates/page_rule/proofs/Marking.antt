@@ -10,9 +10,9 @@ use Rattle.page_rule.specs.Moving.{Moves}
 use Rattle.page_rule.specs.Marks.{all_untouched, marks_after, all_edited, all_marked, AllAccepted, Marked, MarksLaw}
 
 -- a test that gives no fault is true
-passed : {F : Type 0} (b : Bool) (f : F) → cond b None (Some f) ≡ None → b ≡ true
+pub passed : {F : Type 0} (b : Bool) (f : F) → cond b None (Some f) ≡ None → b ≡ true
 passed true f h = refl
-passed false f h = let z : ◌≡◌ {A = ℕ} 0 1 = cc in absurd (omega arith)
+passed false f h = cc
 
 module _ (old now : List Line) (marks : Marks) (m : Marked old now marks) where
   -- fewer items of the tail

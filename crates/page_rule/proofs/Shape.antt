@@ -86,14 +86,14 @@ module _ {M : Type 0} (e : Model M) (steps : (m : M) (l : Line) → SizedStep (e
     within (Paged.at_stuck h) b = omega arith
 
     sums : {more q j : ℕ} {s : M} {f : Formatted M} → Paged e lines more q j s f → j ≤ length lines → f.ending ≡ complete → j + all_items f.pages ≡ length lines + 1
-    sums Paged.over b c = let z : ◌≡◌ {A = ℕ} 0 1 = cc in absurd (omega arith)
+    sums Paged.over b c = cc
     sums (Paged.at_last {j = j} {s = s} h) b c = let d = length-drop j lines in omega (arith, (laid j s _ h).1)
     sums (Paged.at_full {j = j} {s = s} h r) b c =
         let w = laid j s _ h in
         let d = length-drop j lines in
         let l = sums r (omega (arith, w.1)) c in
         omega arith
-    sums (Paged.at_stuck h) b c = let z : ◌≡◌ {A = ℕ} 0 1 = cc in absurd (omega arith)
+    sums (Paged.at_stuck h) b c = cc
 
   pub shape_law : ShapeLaw e
   shape_law limit lines =

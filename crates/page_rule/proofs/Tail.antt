@@ -17,7 +17,7 @@ module _ {M : Type 0} (e : Model M) (old now : List Line) where
   replays : {more' r i : ℕ} {s : M} {f : Formatted M} → Paged e old more' r i s f → f.ending ≡ complete
       → (more q j from to : ℕ) → drop j now ≡ drop i old → Moves from to i j
       → pages_from e more q j s now ≡ replayed more q (map (moved from to) f.pages)
-  replays Paged.over c more q j from to d m = let z : ◌≡◌ {A = ℕ} 0 1 = cc in absurd (omega arith)
+  replays Paged.over c more q j from to d m = cc
   replays (Paged.at_last h) c zero q j from to d m = ap (λ n. no_page (too_many_pages n q)) (omega arith)
   replays (Paged.at_last {items = items} {s = s} {rows = rows} h) c (suc more) q j from to d m =
       from_last e now more q j items s rows (ap (λ ls. fill e ls s 0 []) d ∙ h)
@@ -27,7 +27,7 @@ module _ {M : Type 0} (e : Model M) (old now : List Line) where
       from_full e now more q j items s t rows (ap (λ ls. fill e ls s 0 []) d ∙ h)
       ∙ ap (onto (page j items rows s ∷ [])) (replays r c more (suc q) (j + items) from to (sym (drop-drop items j now) ∙ ap (drop items) d ∙ drop-drop items i old) (omega arith))
       ∙ ap (λ n. onto (page n items rows s ∷ []) (replayed more (suc q) (map (moved from to) f.pages))) (omega arith)
-  replays (Paged.at_stuck h) c more q j from to d m = let z : ◌≡◌ {A = ℕ} 0 1 = cc in absurd (omega arith)
+  replays (Paged.at_stuck h) c more q j from to d m = cc
 
 module _ {M : Type 0} (from to : ℕ) where
   replay_whole : (more q : ℕ) (ps : List (Page M)) → length ps ≤ more → replayed more q (map (moved from to) ps) ≡ record { pages = map (moved from to) ps; ending = complete }
@@ -37,7 +37,7 @@ module _ {M : Type 0} (from to : ℕ) where
 
   replay_cut : (more q : ℕ) (ps : List (Page M)) (p : Page M) → slice_get ps more ≡ Some p
       → replayed more q (map (moved from to) ps) ≡ record { pages = map (moved from to) (take more ps); ending = too_many_pages (moved_item from to p.first) (q + more) }
-  replay_cut more q [] p h = let z : ◌≡◌ {A = ℕ} 0 1 = cc in absurd (omega arith)
+  replay_cut more q [] p h = cc
   replay_cut zero q (x ∷ ps) p h =
       let same : x ≡ p = cc in
       let n : q ≡ q + 0 = omega arith in

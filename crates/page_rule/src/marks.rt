@@ -11,6 +11,7 @@ pub struct Marks {
 
 impl Marks {
     // Before any edit, in a text of so many items.
+    #[tactic(auto, using(crate::proofs::Marking::marks_law))]
     pub fn untouched(items: usize) -> Marks
         ensures marks { result ≡ all_untouched items }
         ensures law { MarksLaw }
@@ -49,9 +50,9 @@ impl Marks {
     pub fn after_insert(self, lines: usize, at: usize) -> Marks
         ensures { (line : List ℕ) → result ≡ marks_after lines self (inserts at line) }
     {
-        match lines.checked_sub(at) {
-            Some(behind) => self.lowered(at, behind.saturating_add(1)),
-            None => self.lowered(at, 0),
-        }
+        let end = lines
+            .checked_sub(at)
+            .map_or(0, |behind| behind.saturating_add(1));
+        self.lowered(at, end)
     }
 }

@@ -10,7 +10,8 @@ ghost use Rattle.page_rule.specs.Tail.{Alike, TailLaw};
 use super::{BODY_BYTES, PAGE_ROWS};
 use engine::Engine;
 
-// The rows of a page and the bytes of its body, as the definitions have them.
+// The rows of a page and the bytes of its body, as the definitions have them. Each ties one constant to its own definition, so there is
+// nothing to share.
 pub fn page_rows() -> usize
     ensures { result ≡ page_rows }
 {
@@ -24,6 +25,7 @@ pub fn body_bytes() -> usize
 }
 
 // The most pages that an engine gives to a text of so many lines, under a limit.
+#[tactic(auto, using(crate::proofs::Counting::steps_law))]
 pub fn most_pages<E: Engine>(engine: &E, line_count: usize, limit: usize) -> usize
     ensures count { result ≡ most_pages limit line_count }
     ensures shape { ShapeLaw (E.model engine.now) }
@@ -37,10 +39,7 @@ pub fn restart_state<E: Engine>(engine: &E, checkpoint: Option<E::State>) -> E::
     ensures state { UnwrapsOrElse checkpoint (λ s. E.means s ≡ (E.model engine.now).start) result }
     ensures law { HeadLaw (E.model engine.now) }
 {
-    match checkpoint {
-        Some(state) => state,
-        None => engine.start(),
-    }
+    checkpoint.unwrap_or_else(|| engine.start())
 }
 
 // Where an item lies, once what was item `from` is item `to`.
@@ -56,6 +55,7 @@ pub fn moved_item(item: usize, from: usize, to: usize) -> Option<usize>
 
 // Whether the pages from an item on are the old ones, if the lines are: the item is where the old one has moved to, and the states
 // before them mean the same.
+#[tactic(auto, using(crate::proofs::Tail::tail_law))]
 pub fn same_start<E: Engine>(
     engine: &E,
     old_item: usize,
@@ -68,8 +68,5 @@ pub fn same_start<E: Engine>(
     ensures answer { Decides result (Alike from to old_item item (E.means old_state.now) (E.means state.now)) }
     ensures law { TailLaw (E.model engine.now) }
 {
-    match moved_item(old_item, from, to) {
-        Some(place) => place == item && engine.same(old_state, state),
-        None => false,
-    }
+    moved_item(old_item, from, to) == Some(item) && engine.same(old_state, state)
 }

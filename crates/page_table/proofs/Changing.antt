@@ -1,6 +1,8 @@
 -- Each change of an index leaves an index.
+use Rattle.std.specs.List.{All}
+use Rattle.std.proofs.lemmas.List.Elements.{All-append, All-push}
+use Rattle.std.proofs.lemmas.Option.{slice_get_within}
 use Rattle.std.proofs.Common.{◌≡◌, ℕ, suc, ◌+◌, ◌-◌, ◌<◌, ◌≤◌, ◌⊎◌, List, [], ◌∷◌, ◌++◌, length, take, Some, sym, refl, ap, ◌∙◌, subst, inl, inr, append-nil, arith}
-use Rattle.std.specs.List.{slice_get}
 use Rattle.std.proofs.lemmas.List.{take_all, length_push}
 use Rattle.std.proofs.lemmas.Bool.{cases_lt, cases_eq}
 use Rattle.line.specs.Stores.{store_limit}
@@ -14,7 +16,7 @@ use Rattle.page_table.specs.Indexes.{Index, way_of, limit, held, users}
 use Rattle.page_table.specs.Sound.{FollowFrom, Filled, FewRows, Within, Apart, Sound, Restart}
 use Rattle.page_table.specs.Settled.{settled}
 use Rattle.page_table.specs.Changes.{in_phase, Begins, Begins.at_start, Begins.at_page, next_page, Admits, gone_on, added, kept_at, TakesOver}
-use Rattle.page_table.proofs.Elements.{none_some, some_single, nth_within, nth_left, each_append, each_left, each_right, each_one}
+use Rattle.page_table.proofs.Elements.{all_at, all_left, all_right}
 use Rattle.page_table.proofs.Held.{held_append, held_mono, first_is, end_is, follow_append, follow_one, follow_none}
 use Rattle.page_table.proofs.Users.{users_append, users_one, users_other}
 use Rattle.page_table.proofs.Settling.{Meets, sound_settled}
@@ -22,21 +24,6 @@ use Rattle.page_table.proofs.Settling.{Meets, sound_settled}
 -- the first item of a resumed session's restart page, and so on, from its state
 pub way_is : (i : Index) (way : Way) → i.phase ≡ Resumed way → way_of i.phase ≡ way
 way_is i way e = ap way_of e
-
-unfilled_settled : Unfilled ≡ Settled → ⊥
-unfilled_settled e = let z : ◌≡◌ {A = ℕ} 0 1 = cc in omega arith
-
-pub edited_settled : Edited ≡ Settled → ⊥
-edited_settled e = let z : ◌≡◌ {A = ℕ} 0 1 = cc in omega arith
-
-pub resumed_settled : (way : Way) → Resumed way ≡ Settled → ⊥
-resumed_settled way e = let z : ◌≡◌ {A = ℕ} 0 1 = cc in omega arith
-
-pub resumed_single : (a b : Way) → Resumed a ≡ Resumed b → a ≡ b
-resumed_single a b e = cc
-
-pub edited_resumed : (way : Way) → Edited ≡ Resumed way → ⊥
-edited_resumed way e = let z : ◌≡◌ {A = ℕ} 0 1 = cc in omega arith
 
 module _ (i : Index) (way : Way) (sound : Sound i) (resumed : i.phase ≡ Resumed way) where
   is_way : way_of i.phase ≡ way
@@ -61,7 +48,7 @@ module _ (i : Index) (way : Way) (sound : Sound i) (resumed : i.phase ≡ Resume
   follows_start = subst (λ (w : Way). FollowFrom w.start i.made) is_way sound.onward
 
   pub unsettled : i.numbers.marks.head + i.numbers.marks.tail ≤ i.numbers.items_then
-  unsettled = sound.touched (λ e. resumed_settled way (sym resumed ∙ e))
+  unsettled = sound.touched (λ e. cc)
 
   -- what a settling asks, by the way
   meets_by : (made : List PageEntry) (over : ℕ) → way.restart ≤ over → FollowFrom way.start made
@@ -103,10 +90,11 @@ module _ (i : Index) (way : Way) (sound : Sound i) (resumed : i.phase ≡ Resume
     pub held_more : held (i.made ++ (next_page way items rows place ∷ [])) ≡ held i.made + items
     held_more = let h = held_append i.made (next_page way items rows place ∷ []) in omega arith
 
-    each_more : (P : PageEntry → Type 0) → ((k : ℕ) (x : PageEntry) → slice_get (i.pages ++ i.made) k ≡ Some x → P x) → P (next_page way items rows place)
-        → (k : ℕ) (x : PageEntry) → slice_get (i.made ++ (next_page way items rows place ∷ [])) k ≡ Some x → P x
-    each_more P all new =
-        each_append P i.made (next_page way items rows place ∷ []) (each_right P i.pages i.made all) (each_one P (next_page way items rows place) new)
+    length_more : length (i.made ++ (next_page way items rows place ∷ [])) ≡ way.made + 1
+    length_more = length_push i.made (next_page way items rows place) ∙ ap (λ (n : ℕ). n + 1) made_is
+
+    each_more : (P : PageEntry → Type 0) → All P (i.pages ++ i.made) → P (next_page way items rows place) → All P (i.made ++ (next_page way items rows place ∷ []))
+    each_more P all new = All-push P i.made (next_page way items rows place) (all_right P i.pages i.made all) new
 
     pub filled_more : Filled (i.made ++ (next_page way items rows place ∷ []))
     filled_more = each_more (λ x. 0 < x.items) sound.filled may.filled
@@ -121,24 +109,24 @@ module _ (i : Index) (way : Way) (sound : Sound i) (resumed : i.phase ≡ Resume
     sound_added short =
         let h = held_more in
         let l = leads in
-        let m : length (i.made ++ (next_page way items rows place ∷ [])) ≡ way.made + 1 = length_push i.made (next_page way items rows place) ∙ ap (λ (n : ℕ). n + 1) made_is in
+        let m = length_more in
         let b = may.below in
         record {
           sized = sound.sized;
           follow = sound.follow;
           whole = sound.whole;
-          filled = each_append (λ x. 0 < x.items) i.pages (i.made ++ (next_page way items rows place ∷ [])) (each_left (λ x. 0 < x.items) i.pages i.made sound.filled) filled_more;
-          few = each_append (λ x. x.rows ≤ page_rows) i.pages (i.made ++ (next_page way items rows place ∷ [])) (each_left (λ x. x.rows ≤ page_rows) i.pages i.made sound.few) few_more;
-          within = each_append (λ x. x.place < i.places) i.pages (i.made ++ (next_page way items rows place ∷ [])) (each_left (λ x. x.place < i.places) i.pages i.made sound.within) within_more;
+          filled = All-append (λ x. 0 < x.items) i.pages (i.made ++ (next_page way items rows place ∷ [])) (all_left (λ x. 0 < x.items) i.pages i.made sound.filled) filled_more;
+          few = All-append (λ x. x.rows ≤ page_rows) i.pages (i.made ++ (next_page way items rows place ∷ [])) (all_left (λ x. x.rows ≤ page_rows) i.pages i.made sound.few) few_more;
+          within = All-append (λ x. x.place < i.places) i.pages (i.made ++ (next_page way items rows place ∷ [])) (all_left (λ x. x.place < i.places) i.pages i.made sound.within) within_more;
           apart = apart_more;
           counted = sound.counted;
           bounded = sound.bounded;
-          untouched = λ e. absurd (resumed_settled (gone_on way items) e);
+          untouched = λ e. cc;
           touched = λ _. unsettled;
           between = (starts, omega arith, short);
           numbered = (restart_within, m, omega arith);
           onward = follows_more;
-          restarted = λ w e. subst (Restart (added i way items rows place)) (resumed_single (gone_on way items) w e) (sound.restarted way resumed);
+          restarted = λ w e. let same : gone_on way items ≡ w = cc in subst (Restart (added i way items rows place)) same (sound.restarted way resumed);
           kept = λ x e. sound.kept x (ap (λ (w : Way). w.kept) is_way ∙ e);
         }
 
@@ -150,7 +138,7 @@ module _ (i : Index) (way : Way) (sound : Sound i) (resumed : i.phase ≡ Resume
         let l = leads in
         let w = sound.whole in
         let t : held (take n i.pages) ≡ held i.pages = ap held (take_all n i.pages (omega arith)) in
-        let m : length (i.made ++ (next_page way items rows place ∷ [])) ≡ way.made + 1 = length_push i.made (next_page way items rows place) ∙ ap (λ (k : ℕ). k + 1) made_is in
+        let m = length_more in
         let b = may.below in
         sound_settled i (i.made ++ (next_page way items rows place ∷ [])) n sound
         (meets_by (i.made ++ (next_page way items rows place ∷ [])) n restart_within follows_more (omega arith) (omega arith) filled_more few_more within_more apart_more)
@@ -165,7 +153,7 @@ module _ (i : Index) (way : Way) (sound : Sound i) (resumed : i.phase ≡ Resume
               let e = end_is i.pages over may.met sound.follow may.there in
               let m = held_mono (suc over) way.restart i.pages (omega arith) in
               let r = sound.restarted way resumed in
-              let i1 = sound.filled over may.met (nth_left i.pages i.made over may.met may.there) in
+              let i1 = all_at (λ x. 0 < x.items) i.pages over may.met may.there (all_left (λ x. 0 < x.items) i.pages i.made sound.filled) in
               let s = starts in
               let u = unsettled in
               let l = may.level in
@@ -184,9 +172,9 @@ module _ (i : Index) (way : Way) (sound : Sound i) (resumed : i.phase ≡ Resume
         let r = may.room in
         sound_settled i i.made over sound
         (meets_by i.made over behind_restart follows_start (omega arith) (omega arith)
-        (each_right (λ x. 0 < x.items) i.pages i.made sound.filled)
-        (each_right (λ x. x.rows ≤ page_rows) i.pages i.made sound.few)
-        (each_right (λ x. x.place < i.places) i.pages i.made sound.within)
+        (all_right (λ x. 0 < x.items) i.pages i.made sound.filled)
+        (all_right (λ x. x.rows ≤ page_rows) i.pages i.made sound.few)
+        (all_right (λ x. x.place < i.places) i.pages i.made sound.within)
         sound.apart)
 
   -- the place of the state before the next item
@@ -202,13 +190,13 @@ module _ (i : Index) (way : Way) (sound : Sound i) (resumed : i.phase ≡ Resume
         apart = sound.apart;
         counted = sound.counted;
         bounded = sound.bounded;
-        untouched = λ e. absurd (resumed_settled (kept_at way place) e);
+        untouched = λ e. cc;
         touched = λ _. unsettled;
         between = (starts, leads, not_ended);
         numbered = (restart_within, made_is, subst (λ (w : Way). w.restart + w.made ≤ limit i) is_way sound.numbered.2);
         onward = follows_start;
-        restarted = λ w e. subst (Restart (in_phase i (Resumed (kept_at way place)) i.made)) (resumed_single (kept_at way place) w e) (sound.restarted way resumed);
-        kept = λ x e. subst (λ (y : ℕ). y < i.places) (some_single place x e) h;
+        restarted = λ w e. let same : kept_at way place ≡ w = cc in subst (Restart (in_phase i (Resumed (kept_at way place)) i.made)) same (sound.restarted way resumed);
+        kept = λ x e. let same : place ≡ x = cc in omega arith;
       }
 
 -- an edited session, with the pages as they were and nothing under way
@@ -217,8 +205,8 @@ pub sound_idle : (i : Index) (numbers : Numbers) → Sound i → numbers.items_t
     → numbers.marks.head + numbers.marks.tail ≤ numbers.items_then
     → Sound (record { places = i.places; pages = i.pages; made = []; numbers = numbers; phase = Edited })
 sound_idle i numbers sound same some few head tail marks =
-    let only : (P : PageEntry → Type 0) → ((k : ℕ) (x : PageEntry) → slice_get (i.pages ++ i.made) k ≡ Some x → P x) → (k : ℕ) (x : PageEntry) → slice_get (i.pages ++ []) k ≡ Some x → P x =
-    λ P all k x e. each_left P i.pages i.made all k x (subst (λ (ps : List PageEntry). slice_get ps k ≡ Some x) (append-nil i.pages) e)
+    let only : (P : PageEntry → Type 0) → All P (i.pages ++ i.made) → All P (i.pages ++ []) =
+    λ P all. subst (All P) (sym (append-nil i.pages)) (all_left P i.pages i.made all)
     in
     record {
       sized = sound.sized;
@@ -234,13 +222,13 @@ sound_idle i numbers sound same some few head tail marks =
           omega arith;
       counted = (some, few, let c = sound.counted.2 in omega arith);
       bounded = (head, tail);
-      untouched = λ e. absurd (edited_settled e);
+      untouched = λ e. cc;
       touched = λ _. marks;
       between = (refl, refl, some);
       numbered = (omega arith, refl, omega arith);
       onward = follow_none 0;
-      restarted = λ way e. absurd (edited_resumed way e);
-      kept = λ x e. absurd (none_some x e);
+      restarted = λ way e. cc;
+      kept = λ x e. cc;
     }
 
 -- the same numbers
@@ -251,8 +239,8 @@ sound_stays i sound unsettled =
 -- a begin
 pub sound_begun : (i : Index) (way : Way) → Sound i → i.phase ≡ Edited → Begins i way → Sound (in_phase i (Resumed way) [])
 sound_begun i way sound edited begins =
-    let marks = sound.touched (λ e. edited_settled (sym edited ∙ e)) in
-    let idle = sound_stays i sound (λ e. edited_settled (sym edited ∙ e)) in
+    let marks = sound.touched (λ e. cc) in
+    let idle = sound_stays i sound (λ e. cc) in
     let w = way_begins begins in
     record {
       sized = idle.sized;
@@ -264,19 +252,19 @@ sound_begun i way sound edited begins =
       apart = idle.apart;
       counted = idle.counted;
       bounded = idle.bounded;
-      untouched = λ e. absurd (resumed_settled way e);
+      untouched = λ e. cc;
       touched = λ _. marks;
       between = (w.0, w.1, w.2);
       numbered = (w.3, w.4, w.5);
       onward = follow_none way.start;
-      restarted = λ v e. subst (Restart (in_phase i (Resumed way) [])) (resumed_single way v e) (w.6, w.7);
+      restarted = λ v e. let same : way ≡ v = cc in subst (Restart (in_phase i (Resumed way) [])) same (w.6, w.7);
       kept = w.8;
     }
   where
     no_head : (i.numbers.marks.head ≡ 0) ⊎ (i.pages ≡ []) → i.numbers.marks.head ≡ 0
     no_head (inl h) = h
     no_head (inr h) =
-        let m = sound.touched (λ e. edited_settled (sym edited ∙ e)) in
+        let m = sound.touched (λ e. cc) in
         let n : held i.pages ≡ 0 = ap held h in
         let t = sound.whole in
         omega arith
@@ -288,11 +276,11 @@ sound_begun i way sound edited begins =
         × ((x : ℕ) → v.kept ≡ Some x → x < i.places)
     way_begins (at_start h) =
         let z = no_head h in
-        (refl, refl, sound.counted.0, omega arith, refl, omega arith, omega arith, omega arith, λ x e. absurd (none_some x e))
+        (refl, refl, sound.counted.0, omega arith, refl, omega arith, omega arith, omega arith, λ x e. cc)
     way_begins (at_page {k} {p} some holds) =
         let f = first_is i.pages k p sound.follow holds.there in
         let e = end_is i.pages k p sound.follow holds.there in
-        let n = nth_within i.pages k p holds.there in
+        let n = slice_get_within i.pages k p holds.there in
         let a = holds.from in
         let b = holds.to in
         let c = sound.bounded.0 in
@@ -305,7 +293,7 @@ sound_begun i way sound edited begins =
           omega arith,
           a,
           omega arith,
-          λ x q. subst (λ (y : ℕ). y < i.places) (some_single p.place x q) (sound.within k p (nth_left i.pages i.made k p holds.there)),
+          λ x q. let same : p.place ≡ x = cc in let w = all_at (λ x. x.place < i.places) i.pages k p holds.there (all_left (λ x. x.place < i.places) i.pages i.made sound.within) in omega arith,
         )
 
 -- the pages hold the untouched items in front
@@ -313,7 +301,7 @@ pub head_held : (i : Index) → Sound i → i.numbers.marks.head ≤ held i.page
 head_held i sound = by_phase i.phase refl
   where
     by_phase : (phase : Phase) → i.phase ≡ phase → i.numbers.marks.head ≤ held i.pages
-    by_phase Unfilled e = let t = sound.touched (λ s. unfilled_settled (sym e ∙ s)) in let w = sound.whole in omega arith
-    by_phase Edited e = let t = sound.touched (λ s. edited_settled (sym e ∙ s)) in let w = sound.whole in omega arith
-    by_phase (Resumed way) e = let t = sound.touched (λ s. resumed_settled way (sym e ∙ s)) in let w = sound.whole in omega arith
+    by_phase Unfilled e = let t = sound.touched (λ s. cc) in let w = sound.whole in omega arith
+    by_phase Edited e = let t = sound.touched (λ s. cc) in let w = sound.whole in omega arith
+    by_phase (Resumed way) e = let t = sound.touched (λ s. cc) in let w = sound.whole in omega arith
     by_phase Settled e = let u = sound.untouched e in let w = sound.whole in omega (arith, u.0, u.1)

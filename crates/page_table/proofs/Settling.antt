@@ -1,47 +1,35 @@
 -- The pages after a settling make an index.
-use Rattle.std.proofs.Common.{◌≡◌, ℕ, zero, suc, ◌+◌, ◌-◌, ◌<◌, ◌≤◌, List, [], ◌∷◌, ◌++◌, map, length, take, drop, Some, sym, refl, ap, ◌∙◌, subst, append-nil, zero-add, arith}
+use Rattle.std.proofs.lemmas.List.Sums.{sum_by-take-drop}
+use Rattle.std.specs.List.{All}
+use Rattle.std.proofs.lemmas.List.Elements.{All-append, All-take, All-drop, All-map, All-weaker}
+use Rattle.std.proofs.Math.Seq.{take-add}
+use Rattle.std.proofs.Common.{◌≡◌, ℕ, ◌+◌, ◌-◌, ◌<◌, ◌≤◌, List, [], ◌∷◌, ◌++◌, map, length, take, drop, Some, sym, refl, ap, ◌∙◌, subst, append-nil, zero-add, arith}
 use Rattle.std.specs.List.{slice_get}
-use Rattle.std.proofs.lemmas.List.{length-append, length-take, length-map, length-drop}
+use Rattle.std.proofs.lemmas.List.{length-append, length-take, length-map, length-drop, take-map}
 use Rattle.page_rule.specs.Pages.{page_rows}
 use Rattle.page_table.specs.declared.entry.PageEntry.{PageEntry}
-use Rattle.page_table.specs.declared.state.Phase.TheVariants.{Resumed, Settled}
-use Rattle.page_table.specs.declared.state.Way.{Way}
 use Rattle.page_table.specs.Indexes.{Index, way_of, limit, held, users}
 use Rattle.page_table.specs.Sound.{FollowFrom, Filled, FewRows, Within, Apart, Sound}
 use Rattle.page_table.specs.Settled.{moved_entry, settled_pages, settled}
-use Rattle.page_table.proofs.Elements.{Each, none_some, nth_drop, nth_map, each_append, each_left, each_take, each_drop, each_map}
-use Rattle.page_table.proofs.Held.{held_append, held_split, first_is, follow_append, follow_take}
-use Rattle.page_table.proofs.Users.{users_append, users_without}
+use Rattle.page_table.proofs.Elements.{nth_drop, nth_map, all_left}
+use Rattle.page_table.proofs.Held.{held_append, held_cons, first_is, follow_append, follow_take}
+use Rattle.page_table.proofs.Users.{users_append, users_cons, users_without}
 
 pub held_moved : (from to : ℕ) (ps : List PageEntry) → held (map (moved_entry from to) ps) ≡ held ps
 held_moved from to [] = refl
-held_moved from to (p ∷ ps) = let h = held_moved from to ps in omega arith
+held_moved from to (p ∷ ps) =
+    let h = held_moved from to ps in
+    let a = held_cons p ps in
+    let b = held_cons (moved_entry from to p) (map (moved_entry from to) ps) in
+    omega arith
 
 pub users_moved : (from to : ℕ) (ps : List PageEntry) (x : ℕ) → users (map (moved_entry from to) ps) x ≡ users ps x
 users_moved from to [] x = refl
-users_moved from to (p ∷ ps) x = let h = users_moved from to ps x in omega arith
-
-take_of_map : (f : PageEntry → PageEntry) (n : ℕ) (ps : List PageEntry) → take n (map f ps) ≡ map f (take n ps)
-take_of_map f zero ps = refl
-take_of_map f (suc n) [] = refl
-take_of_map f (suc n) (p ∷ ps) = ap (λ (qs : List PageEntry). f p ∷ qs) (take_of_map f n ps)
-
-held_nothing : (n : ℕ) → held (take n []) ≡ 0
-held_nothing zero = refl
-held_nothing (suc n) = refl
-
-held_take_drop : (a k : ℕ) (ps : List PageEntry) → held (take (a + k) ps) ≡ held (take a ps) + held (take k (drop a ps))
-held_take_drop zero k ps = ap (λ (n : ℕ). held (take n ps)) (zero-add k) ∙ sym (zero-add (held (take k ps)))
-held_take_drop (suc a) k [] = let m = held_nothing (suc a + k) in let n = held_nothing k in omega arith
-held_take_drop (suc a) k (p ∷ ps) =
-    let e : held (take (suc a + k) (p ∷ ps)) ≡ held (take (suc (a + k)) (p ∷ ps)) =
-    ap (λ (n : ℕ). held (take n (p ∷ ps))) (native_suc a k)
-    in
-    let h = held_take_drop a k ps in
+users_moved from to (p ∷ ps) x =
+    let h = users_moved from to ps x in
+    let a = users_cons p ps x in
+    let b = users_cons (moved_entry from to p) (map (moved_entry from to) ps) x in
     omega arith
-  where
-    native_suc : (a k : ℕ) → suc a + k ≡ suc (a + k)
-    native_suc a k = omega arith
 
 -- pages that follow on from item 0, from one of them on, as their items move
 pub follow_moved : (from to j over : ℕ) (ps : List PageEntry) → FollowFrom 0 ps → held (take over ps) + to ≡ j + from → FollowFrom j (map (moved_entry from to) (drop over ps))
@@ -50,15 +38,12 @@ follow_moved from to j over ps f level k q e =
     let p = h.0 in
     let there : slice_get ps (over + k) ≡ Some p = sym (nth_drop over ps k) ∙ h.1 in
     let first : p.first ≡ held (take (over + k) ps) = first_is ps (over + k) p f there in
-    let split = held_take_drop over k ps in
+    let split : held (take (over + k) ps) ≡ held (take over ps) + held (take k (drop over ps)) = ap held (take-add over k ps) ∙ held_append (take over ps) (take k (drop over ps)) in
     let same : held (take k (map (moved_entry from to) (drop over ps))) ≡ held (take k (drop over ps)) =
-    ap held (take_of_map (moved_entry from to) k (drop over ps)) ∙ held_moved from to (take k (drop over ps))
+    ap held (take-map (moved_entry from to) k (drop over ps)) ∙ held_moved from to (take k (drop over ps))
     in
     let is : p.first + to - from ≡ q.first = ap (λ (x : PageEntry). x.first) h.2 in
     omega arith
-
-pub settled_resumed : (way : Way) → Settled ≡ Resumed way → ⊥
-settled_resumed way e = let z : ◌≡◌ {A = ℕ} 0 1 = cc in omega arith
 
 -- what a settling asks: the pages made lead from the restart page to an item, from which on the old pages are taken over
 pub record Meets (i : Index) (made : List PageEntry) (over : ℕ) : Type 0 where
@@ -95,20 +80,22 @@ module _ (i : Index) (made : List PageEntry) (over : ℕ) (sound : Sound i) (mee
       let a = held_append front (made ++ taken) in
       let b = held_append made taken in
       let c = held_moved i.numbers.items_then i.numbers.items_now (drop over i.pages) in
-      let d = held_split over i.pages in
+      let d = sum_by-take-drop (λ (p : PageEntry). p.items) i.pages over in
       let s = sound.between.0 in
       let w = sound.whole in
       let l = meets.level in
       omega arith
 
   -- what holds of all pages, old and made, and does not speak of first items
-  each_settled : (P : PageEntry → Type 0) → ((x : PageEntry) → P x → P (moved_entry i.numbers.items_then i.numbers.items_now x)) → Each P i.pages → Each P made → Each P (settled_pages i made over ++ [])
+  each_settled : (P : PageEntry → Type 0) → ((x : PageEntry) → P x → P (moved_entry i.numbers.items_then i.numbers.items_now x)) → All P i.pages → All P made → All P (settled_pages i made over ++ [])
   unfolding front taken
   each_settled P keeps old new =
-      subst (Each P) (sym (append-nil (settled_pages i made over)))
-      (each_append P front (made ++ taken) (each_take P (way_of i.phase).restart i.pages old)
-      (each_append P made taken new
-      (each_map P (moved_entry i.numbers.items_then i.numbers.items_now) keeps (drop over i.pages) (each_drop P over i.pages old))))
+      let move : PageEntry → PageEntry = moved_entry i.numbers.items_then i.numbers.items_now in
+      let rest : List PageEntry = drop over i.pages in
+      subst (All P) (sym (append-nil (settled_pages i made over)))
+      (All-append P front (made ++ taken) (All-take P (way_of i.phase).restart i.pages old)
+      (All-append P made taken new
+      (All-map P move rest (All-weaker P (λ x. P (move x)) keeps rest (All-drop P over i.pages old)))))
 
   apart_settled : Apart (settled_pages i made over ++ [])
   unfolding front taken
@@ -142,9 +129,9 @@ module _ (i : Index) (made : List PageEntry) (over : ℕ) (sound : Sound i) (mee
         sized = (sound.sized.0, count_settled);
         follow = follow_settled;
         whole = whole_settled;
-        filled = each_settled (λ x. 0 < x.items) (λ x h. h) (each_left (λ x. 0 < x.items) i.pages i.made sound.filled) meets.filled;
-        few = each_settled (λ x. x.rows ≤ page_rows) (λ x h. h) (each_left (λ x. x.rows ≤ page_rows) i.pages i.made sound.few) meets.few;
-        within = each_settled (λ x. x.place < i.places) (λ x h. h) (each_left (λ x. x.place < i.places) i.pages i.made sound.within) meets.within;
+        filled = each_settled (λ x. 0 < x.items) (λ x h. h) (all_left (λ x. 0 < x.items) i.pages i.made sound.filled) meets.filled;
+        few = each_settled (λ x. x.rows ≤ page_rows) (λ x h. h) (all_left (λ x. x.rows ≤ page_rows) i.pages i.made sound.few) meets.few;
+        within = each_settled (λ x. x.place < i.places) (λ x h. h) (all_left (λ x. x.place < i.places) i.pages i.made sound.within) meets.within;
         apart = apart_settled;
         counted = (c.0, c.1, c.1);
         bounded = (omega arith, omega arith);
@@ -152,7 +139,7 @@ module _ (i : Index) (made : List PageEntry) (over : ℕ) (sound : Sound i) (mee
         touched = λ n. absurd (n refl);
         between = (refl, refl, c.0);
         numbered = (omega arith, refl, omega arith);
-        onward = λ k p e. absurd (none_some p e);
-        restarted = λ way e. absurd (settled_resumed way e);
-        kept = λ x e. absurd (none_some x e);
+        onward = λ k p e. cc;
+        restarted = λ way e. cc;
+        kept = λ x e. cc;
       }

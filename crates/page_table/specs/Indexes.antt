@@ -1,5 +1,6 @@
 -- A page index, by what it means. Assumes nothing.
-use Rattle.std.specs.Prelude.{ℕ, ◌+◌, ◌/◌, cond, List, [], ◌∷◌, take, None, ◌==◌}
+use Rattle.std.specs.List.{sum_by, count_by}
+use Rattle.std.specs.Prelude.{ℕ, ◌/◌, List, take, None, ◌==◌}
 use Rattle.page_table.specs.declared.entry.PageEntry.{PageEntry}
 use Rattle.page_table.specs.declared.state.Numbers.{Numbers}
 use Rattle.page_table.specs.declared.state.Way.{Way}
@@ -37,10 +38,8 @@ limit i = i.places / 2
 
 -- the items of some pages
 abbrev pub held : List PageEntry → ℕ
-held [] = 0
-held (p ∷ ps) = p.items + held ps
+held = sum_by (λ p. p.items)
 
 -- how many of these pages have a place
 abbrev pub users : List PageEntry → ℕ → ℕ
-users [] x = 0
-users (p ∷ ps) x = cond (p.place == x) 1 0 + users ps x
+users ps x = count_by (λ p. p.place == x) ps

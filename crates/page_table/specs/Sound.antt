@@ -1,6 +1,6 @@
 -- What every page index keeps. Assumes nothing.
 use Rattle.std.specs.Prelude.{◌≡◌, ℕ, suc, ◌+◌, ◌-◌, ◌%◌, ◌<◌, ◌≤◌, List, ◌++◌, length, take, Some, ◌≢◌}
-use Rattle.std.specs.List.{slice_get}
+use Rattle.std.specs.List.{slice_get, All}
 use Rattle.line.specs.Stores.{store_limit}
 use Rattle.page_rule.specs.Pages.{page_rows}
 use Rattle.page_table.specs.declared.entry.PageEntry.{PageEntry}
@@ -23,15 +23,15 @@ FollowFrom j ps = (k : ℕ) (p : PageEntry) → slice_get ps k ≡ Some p → p.
 
 -- each page has at least one item
 abbrev pub Filled : List PageEntry → Type 0
-Filled ps = (k : ℕ) (p : PageEntry) → slice_get ps k ≡ Some p → 0 < p.items
+Filled ps = All (λ p. 0 < p.items) ps
 
 -- each has at most as many rows as a body
 abbrev pub FewRows : List PageEntry → Type 0
-FewRows ps = (k : ℕ) (p : PageEntry) → slice_get ps k ≡ Some p → p.rows ≤ page_rows
+FewRows ps = All (λ p. p.rows ≤ page_rows) ps
 
 -- each has one of the places
 abbrev pub Within : ℕ → List PageEntry → Type 0
-Within places ps = (k : ℕ) (p : PageEntry) → slice_get ps k ≡ Some p → p.place < places
+Within places ps = All (λ p. p.place < places) ps
 
 -- no two share a place: each place is of at most one of them
 abbrev pub Apart : List PageEntry → Type 0

@@ -8,13 +8,13 @@ use Rattle.page_index.proofs.index.PageIndex.restart_way.Goals as goal
 pub returns-then-head-eq0 : goal.returns-then-head-eq0
 returns-then-head-eq0 c = at_start (inl c.if-head-eq0.true)
 
-pub returns-in-None : goal.returns-in-None
-returns-in-None c =
+pub returns-in_default : goal.returns-in_default
+returns-in_default c =
     let x = c.args.self.now in
     let i = index_of x.table in
     let h = head_held i (x.sound) in
     let found = holder 0 (x.table.numbers.marks.head - 1) i.pages x.sound.follow (omega arith) (omega (arith, c.if-head-eq0.false)) in
-    absurd (c.in-None.ensures found.0 found.1 found.2)
+    absurd (c.in_default.ensures found.0 found.1 found.2)
 
-pub returns-in-Some : goal.returns-in-Some
-returns-in-Some c = at_page (omega (arith, c.if-head-eq0.false)) c.in-Some.ensures
+pub returns : goal.returns
+returns c = at_page (omega (arith, c.if-head-eq0.false)) c.in-Some.ensures
