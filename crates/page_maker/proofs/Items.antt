@@ -1,11 +1,12 @@
 -- One item, by the lines from it on. Assumes nothing.
-use Rattle.std.proofs.Common.{◌≡◌, ℕ, ◌-◌, ◌<◌, ◌≤◌, List, [], ◌++◌, length, get_or, take, drop, sym, ap, ◌∙◌, subst, arith, drop_of_length-le, drop-cons}
+use Rattle.std.proofs.Common.{◌≡◌, ℕ, ◌-◌, ◌<◌, ◌≤◌, List, [], ◌++◌, length, get_or, take, drop, Ok, Err, Result, sym, ap, ◌∙◌, subst, arith, drop_of_length-le, drop-cons}
 use Rattle.std.proofs.lemmas.List.{take_at}
 use Rattle.line.specs.Lines.{Line}
+use Rattle.engine.specs.declared.EngineFault.{EngineFault}
 use Rattle.engine.specs.Model.{Stepped, Stepped.goes, Model}
 use Rattle.page_rule.specs.Filling.{stepped}
 use Rattle.page_maker.specs.declared.made.Placed.{Placed}
-use Rattle.page_maker.specs.declared.made.Placed.TheVariants.{On, End, Over, Refused}
+use Rattle.page_maker.specs.declared.made.Placed.TheVariants.{On, End, Over}
 use Rattle.page_maker.specs.Promise.{LineGives, PlaceGives, ItemOn, ItemOver}
 
 -- the line at the front of the buffer that it was read to
@@ -17,13 +18,13 @@ module _ {M S : Type 0} (means : S → M) (e : Model M) (lines : List Line) (ite
   line_step : item < length lines → stepped e m (drop item lines) ≡ e.step m (get_or lines item [])
   line_step h = ap (stepped e m) (drop-cons lines item [] h)
 
-  placed : (x : Stepped M) (r : Placed S) → item < length lines → LineGives means x rows before r after → PlaceGives means (length lines) item x m rows before r after
-  placed x (On next more) h p = (h, p)
-  placed x (End more) h p = absurd p
-  placed x Over h p = p
-  placed x (Refused fault) h p = (h, p.0, p.1)
+  placed : (x : Stepped M) (r : Result (Placed S) EngineFault) → item < length lines → LineGives means x rows before r after → PlaceGives means (length lines) item x m rows before r after
+  placed x (Ok (On next total)) h p = (h, p)
+  placed x (Ok (End total)) h p = absurd p
+  placed x (Ok Over) h p = p
+  placed x (Err fault) h p = (h, p.0, p.1)
 
-  pub line_placed : (line : Line) (r : Placed S) → item < length lines → line ≡ get_or lines item [] → LineGives means (e.step m line) rows before r after → PlaceGives means (length lines) item (stepped e m (drop item lines)) m rows before r after
+  pub line_placed : (line : Line) (r : Result (Placed S) EngineFault) → item < length lines → line ≡ get_or lines item [] → LineGives means (e.step m line) rows before r after → PlaceGives means (length lines) item (stepped e m (drop item lines)) m rows before r after
   line_placed line r h q p =
       placed (stepped e m (drop item lines)) r h (subst (λ x. LineGives means x rows before r after) (ap (e.step m) q ∙ sym (line_step h)) p)
 
@@ -31,8 +32,8 @@ module _ {M S : Type 0} (means : S → M) (e : Model M) (lines : List Line) (ite
   end_step : length lines ≤ item → stepped e m (drop item lines) ≡ goes m (e.close m)
   end_step h = ap (stepped e m) (drop_of_length-le lines h)
 
-  pub end_on : (more : ℕ) → length lines ≤ item → ItemOn (goes m (e.close m)) m rows before more after → ItemOn (stepped e m (drop item lines)) m rows before more after
-  end_on more h p = subst (λ x. ItemOn x m rows before more after) (sym (end_step h)) p
+  pub end_on : (total : ℕ) → length lines ≤ item → ItemOn (goes m (e.close m)) m rows before total after → ItemOn (stepped e m (drop item lines)) m rows before total after
+  end_on total h p = subst (λ x. ItemOn x m rows before total after) (sym (end_step h)) p
 
   pub end_over : length lines ≤ item → ItemOver (goes m (e.close m)) rows before after → ItemOver (stepped e m (drop item lines)) rows before after
   end_over h p = subst (λ x. ItemOver x rows before after) (sym (end_step h)) p

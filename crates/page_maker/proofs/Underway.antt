@@ -69,30 +69,30 @@ module _ {M : Type 0} (e : Model M) (lines : List Line) (first : ℕ) (start : M
         ap (drop n) (u.holds ∙ ap (λ i. joined u.set ++ drop i before) k) ∙ drop-append-drop (rows * 72) before (joined u.set) n h u.size
 
     -- with the rows of one more item
-    module _ (x : Stepped M) (t : M) (more : ℕ) (after : List ℕ) (o : ItemOn x t rows bytes more after) where
+    module _ (x : Stepped M) (t : M) (total : ℕ) (after : List ℕ) (o : ItemOn x t rows bytes total after) where
       all : List Row
       all = u.set ++ o.given
 
-      counts_on : rows + more ≡ length (u.set ++ o.given)
+      counts_on : total ≡ length (u.set ++ o.given)
       counts_on = let a = u.counts in let b = o.counts in let c = length-append u.set o.given in omega arith
 
-      size_on : length (joined (u.set ++ o.given)) ≡ (rows + more) * 72
+      size_on : length (joined (u.set ++ o.given)) ≡ total * 72
       size_on = ap length (joined_append u.set o.given) ∙ length-append (joined u.set) (joined o.given) ∙ (let a = u.size in let b = o.size in omega arith)
 
       holds_on : after ≡ fronted (u.set ++ o.given) before
       holds_on =
           o.holds
-          ∙ ap (λ l. l ++ joined o.given ++ drop ((rows + more) * 72) bytes) front
-          ∙ ap (λ l. joined u.set ++ joined o.given ++ l) (rest ((rows + more) * 72) (omega arith))
-          ∙ ap (λ l. l ++ drop ((rows + more) * 72) before) (sym (joined_append u.set o.given))
+          ∙ ap (λ l. l ++ joined o.given ++ drop (total * 72) bytes) front
+          ∙ ap (λ l. joined u.set ++ joined o.given ++ l) (rest (total * 72) (omega arith))
+          ∙ ap (λ l. l ++ drop (total * 72) before) (sym (joined_append u.set o.given))
           ∙ ap (λ i. joined (u.set ++ o.given) ++ drop (i * 72) before) counts_on
 
       fits_on : length u.set + length o.given ≤ 40
       fits_on = let a = u.counts in let b = o.counts in let c = o.fits in omega arith
 
-    pub on : (t : M) (more : ℕ) (after : List ℕ) → ItemOn (stepped e m (drop (first + items) lines)) t rows bytes more after → first + items < length lines
-        → Underway e lines first start before (items + 1) (rows + more) t after
-    on t more after o h =
+    pub on : (t : M) (total : ℕ) (after : List ℕ) → ItemOn (stepped e m (drop (first + items) lines)) t rows bytes total after → first + items < length lines
+        → Underway e lines first start before (items + 1) total t after
+    on t total after o h =
         let x = stepped e m (drop (first + items) lines) in
         let d = drop-cons lines (first + items) [] h in
         let g : e.step m (get_or lines (first + items) []) ≡ goes t o.given = ap (stepped e m) (sym d) ∙ o.step in
@@ -101,31 +101,31 @@ module _ {M : Type 0} (e : Model M) (lines : List Line) (first : ℕ) (start : M
           set = u.set ++ o.given;
           rule = ap (λ i. fill e (drop i lines) t (items + 1) (u.set ++ o.given)) n
               ∙ ap (λ i. fill e (drop (suc (first + items)) lines) t i (u.set ++ o.given)) (add-one items)
-              ∙ sym (fill_on e m t items u.set o.given (get_or lines (first + items) []) (drop (suc (first + items)) lines) g (fits_on x t more after o))
+              ∙ sym (fill_on e m t items u.set o.given (get_or lines (first + items) []) (drop (suc (first + items)) lines) g (fits_on x t total after o))
               ∙ ap (λ ls. fill e ls m items u.set) (sym d)
               ∙ u.rule;
-          counts = counts_on x t more after o;
+          counts = counts_on x t total after o;
           few = o.fits;
           each = let a = u.each in let b = o.few in omega arith;
-          size = size_on x t more after o;
-          holds = holds_on x t more after o;
+          size = size_on x t total after o;
+          holds = holds_on x t total after o;
           within = omega arith;
         }
 
     -- the end is on the page
-    pub on_last : (more : ℕ) (after done : List ℕ) → ItemOn (stepped e m (drop (first + items) lines)) m rows bytes more after → length lines ≤ first + items
-        → done ≡ take ((rows + more) * 72) after ++ replicate ((40 - (rows + more)) * 72) 32
-        → Lies (fill e (drop first lines) start 0 []) last (items + 1) (rows + more) done
-    on_last more after done o h y =
+    pub on_last : (total : ℕ) (after done : List ℕ) → ItemOn (stepped e m (drop (first + items) lines)) m rows bytes total after → length lines ≤ first + items
+        → done ≡ take (total * 72) after ++ replicate ((40 - total) * 72) 32
+        → Lies (fill e (drop first lines) start 0 []) last (items + 1) total done
+    on_last total after done o h y =
         let x = stepped e m (drop (first + items) lines) in
         let d = drop_of_length-le lines h in
         let g : stepped e m [] ≡ goes m o.given = ap (stepped e m) (sym d) ∙ o.step in
-        let top : take ((rows + more) * 72) after ≡ joined (u.set ++ o.given) = ap (take ((rows + more) * 72)) (holds_on x m more after o) ∙ take_at (joined (u.set ++ o.given)) (drop (length (u.set ++ o.given) * 72) before) ((rows + more) * 72) (size_on x m more after o) in
+        let top : take (total * 72) after ≡ joined (u.set ++ o.given) = ap (take (total * 72)) (holds_on x m total after o) ∙ take_at (joined (u.set ++ o.given)) (drop (length (u.set ++ o.given) * 72) before) (total * 72) (size_on x m total after o) in
         record {
           set = u.set ++ o.given;
-          rule = sym u.rule ∙ ap (λ ls. fill e ls m items u.set) d ∙ fill_end e m m items u.set o.given g (fits_on x m more after o) ∙ ap (λ i. last i (u.set ++ o.given)) (sym (add-one items));
-          counts = counts_on x m more after o;
-          holds = y ∙ ap (λ l. l ++ replicate ((40 - (rows + more)) * 72) 32) top ∙ ap (λ i. joined (u.set ++ o.given) ++ replicate ((40 - i) * 72) 32) (counts_on x m more after o);
+          rule = sym u.rule ∙ ap (λ ls. fill e ls m items u.set) d ∙ fill_end e m m items u.set o.given g (fits_on x m total after o) ∙ ap (λ i. last i (u.set ++ o.given)) (sym (add-one items));
+          counts = counts_on x m total after o;
+          holds = y ∙ ap (λ l. l ++ replicate ((40 - total) * 72) 32) top ∙ ap (λ i. joined (u.set ++ o.given) ++ replicate ((40 - i) * 72) 32) (counts_on x m total after o);
         }
 
     -- an item does not fit: it is on a later page, so the end is not on this one
@@ -139,9 +139,6 @@ module _ {M : Type 0} (e : Model M) (lines : List Line) (first : ℕ) (start : M
           counts = u.counts;
           holds = y ∙ ap (λ l. take (rows * 72) l ++ replicate ((40 - rows) * 72) 32) o.same ∙ ap (λ l. l ++ replicate ((40 - rows) * 72) 32) front ∙ ap (λ i. joined u.set ++ replicate ((40 - i) * 72) 32) u.counts;
         }
-
-    pub before_end : (x : Stepped M) (after : List ℕ) → ItemOver x rows bytes after → first + items ≤ length lines
-    before_end x after o = let a = u.each in let b = o.few in let c = o.over in let d = u.within in omega arith
 
     -- a line is refused
     pub refused : (fault : LineFault) (number : ℕ) (after : List ℕ) → stepped e m (drop (first + items) lines) ≡ refuses fault.fault.cause fault.fault.column → fault.line ≡ first + items → fault.page ≡ number → after ≡ bytes → Stops (fill e (drop first lines) start 0 []) fault first number before after

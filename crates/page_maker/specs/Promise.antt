@@ -1,7 +1,9 @@
 -- What making one page promises. Assumes nothing.
 use Rattle.std.specs.Prelude.{◌≡◌, ℕ, ◌+◌, ◌-◌, ◌*◌, ◌<◌, ◌≤◌, List, [], ◌∷◌, ◌++◌, length, take, drop, Some, None, Ok, Err, Option, Result}
+use Rattle.std.proofs.Math.Seq.{paste}
 use Rattle.line.specs.Lines.{Line}
 use Rattle.engine.specs.Model.{Row, Stepped, Stepped.goes, Stepped.refuses, Model, row_width, step_rows}
+use Rattle.engine.specs.declared.EngineFault.{EngineFault}
 use Rattle.engine.specs.Promise.{joined, fronted}
 use Rattle.page_rule.specs.Pages.{body, steps, page_rows}
 use Rattle.page_rule.specs.Filling.{Filled, Filled.last, Filled.full, Filled.stuck, fill}
@@ -13,7 +15,8 @@ use Rattle.page_maker.specs.declared.made.Position.{Position}
 use Rattle.page_maker.specs.declared.made.Made.{Made}
 use Rattle.page_maker.specs.declared.made.Filling.{Filling}
 use Rattle.page_maker.specs.declared.made.Placed.{Placed}
-use Rattle.page_maker.specs.declared.made.Placed.TheVariants.{On, End, Over, Refused}
+use Rattle.page_maker.specs.declared.made.Placed.TheVariants.{On, End, Over}
+use Rattle.page_maker.specs.declared.count.RowCount.{RowCount}
 use Rattle.page_maker.specs.Faults.{ending}
 
 module _ {M S : Type 0} (means : S → M) (e : Model M) (lines : List Line) where
@@ -94,15 +97,15 @@ module _ {M S : Type 0} (means : S → M) where
   FillGives n f first number before (Ok filling) after = FilledTo n f first filling filling.next after
   FillGives n f first number before (Err fault) after = Stops f fault first number before after
 
--- an item whose step was x, put below `rows` rows of a body
-pub record ItemOn {M : Type 0} (x : Stepped M) (t : M) (rows : ℕ) (before : List ℕ) (more : ℕ) (after : List ℕ) : Type 0 where
+-- an item whose step was x, put below `rows` rows of a body, which has `total` rows then
+pub record ItemOn {M : Type 0} (x : Stepped M) (t : M) (rows : ℕ) (before : List ℕ) (total : ℕ) (after : List ℕ) : Type 0 where
   pub given : List Row
   pub step : x ≡ goes t given
-  pub counts : more ≡ length given
-  pub few : more ≤ step_rows
-  pub size : length (joined given) ≡ more * row_width
-  pub fits : rows + more ≤ page_rows
-  pub holds : after ≡ take (rows * row_width) before ++ joined given ++ drop ((rows + more) * row_width) before
+  pub counts : total ≡ rows + length given
+  pub few : length given ≤ step_rows
+  pub size : length (joined given) ≡ length given * row_width
+  pub fits : total ≤ page_rows
+  pub holds : after ≡ take (rows * row_width) before ++ joined given ++ drop (total * row_width) before
 
 pub record ItemOver {M : Type 0} (x : Stepped M) (rows : ℕ) (before after : List ℕ) : Type 0 where
   pub next : M
@@ -112,22 +115,27 @@ pub record ItemOver {M : Type 0} (x : Stepped M) (rows : ℕ) (before after : Li
   pub over : page_rows < rows + length given
   pub same : after ≡ before
 
+-- the first `more` rows of a buffer, put below `rows` rows of a body where they fit
+abbrev pub PutGives : ℕ → List ℕ → List ℕ → ℕ → Option RowCount → List ℕ → Type 0
+PutGives rows before buffer more (Some total) after = (total.count ≡ rows + more) × (after ≡ paste before (rows * row_width) buffer (more * row_width))
+PutGives rows before buffer more None after = (page_rows < rows + more) × (after ≡ before)
+
 -- the end whose rows are these, put below `rows` rows of a body
-abbrev pub EndGives : {M : Type 0} → M → List Row → ℕ → List ℕ → Option ℕ → List ℕ → Type 0
-EndGives m close rows before (Some more) after = ItemOn (goes m close) m rows before more after
+abbrev pub EndGives : {M : Type 0} → M → List Row → ℕ → List ℕ → Option RowCount → List ℕ → Type 0
+EndGives m close rows before (Some total) after = ItemOn (goes m close) m rows before total.count after
 EndGives m close rows before None after = ItemOver (goes m close) rows before after
 
 module _ {M S : Type 0} (means : S → M) where
   -- a line whose step was x
-  abbrev pub LineGives : Stepped M → ℕ → List ℕ → Placed S → List ℕ → Type 0
-  LineGives x rows before (On next more) after = ItemOn x (means next) rows before more after
-  LineGives x rows before (End more) after = ⊥
-  LineGives x rows before Over after = ItemOver x rows before after
-  LineGives x rows before (Refused fault) after = (x ≡ refuses fault.cause fault.column) × (after ≡ before)
+  abbrev pub LineGives : Stepped M → ℕ → List ℕ → Result (Placed S) EngineFault → List ℕ → Type 0
+  LineGives x rows before (Ok (On next total)) after = ItemOn x (means next) rows before total.count after
+  LineGives x rows before (Ok (End total)) after = ⊥
+  LineGives x rows before (Ok Over) after = ItemOver x rows before after
+  LineGives x rows before (Err fault) after = (x ≡ refuses fault.cause fault.column) × (after ≡ before)
 
   -- item `item` of a text of n lines, whose step was x
-  abbrev pub PlaceGives : ℕ → ℕ → Stepped M → M → ℕ → List ℕ → Placed S → List ℕ → Type 0
-  PlaceGives n item x m rows before (On next more) after = (item < n) × ItemOn x (means next) rows before more after
-  PlaceGives n item x m rows before (End more) after = (n ≤ item) × ItemOn x m rows before more after
-  PlaceGives n item x m rows before Over after = ItemOver x rows before after
-  PlaceGives n item x m rows before (Refused fault) after = (item < n) × (x ≡ refuses fault.cause fault.column) × (after ≡ before)
+  abbrev pub PlaceGives : ℕ → ℕ → Stepped M → M → ℕ → List ℕ → Result (Placed S) EngineFault → List ℕ → Type 0
+  PlaceGives n item x m rows before (Ok (On next total)) after = (item < n) × ItemOn x (means next) rows before total.count after
+  PlaceGives n item x m rows before (Ok (End total)) after = (n ≤ item) × ItemOn x m rows before total.count after
+  PlaceGives n item x m rows before (Ok Over) after = ItemOver x rows before after
+  PlaceGives n item x m rows before (Err fault) after = (item < n) × (x ≡ refuses fault.cause fault.column) × (after ≡ before)

@@ -1,85 +1,62 @@
 // Makes one page by the page rule, over any engine and any line store.
 #![tactic(auto)]
 
-ghost use Rattle.std.specs.Prelude.{◌≡◌, ℕ, ◌+◌, ◌-◌, ◌*◌, ◌≤◌, List, [], ◌++◌, length, take, drop, replicate};
-ghost use Rattle.std.proofs.Math.Seq.{paste};
+ghost use Rattle.std.specs.Prelude.{◌≡◌, ℕ, List, [], length, drop};
 ghost use Rattle.line.specs.Lines.{Line};
-ghost use Rattle.engine.specs.Model.{row_width, step_rows};
-ghost use Rattle.page_rule.specs.Pages.{page_rows};
 ghost use Rattle.page_rule.specs.Filling.{fill, stepped};
 ghost use Rattle.page_rule.specs.Formatting.{formatted};
 ghost use Rattle.page_maker.specs.Promise.{PageGives, FillGives, PlaceGives, LineGives, EndGives, ahead};
 
-use engine::{Engine, ROW_WIDTH, RowBuffer, STEP_ROWS};
+use engine::{Engine, EngineFault, ROW_WIDTH, STEP_ROWS};
 use line::{LINE_LIMIT, LineStore};
-use page_rule::{BODY_BYTES, PAGE_ROWS};
+use page_rule::BODY_BYTES;
 
+mod count;
 mod fault;
 mod made;
+mod put;
 mod tell;
 
+use count::RowCount;
 pub use fault::{LineFault, PageFault};
 use made::{Filling, Placed};
 pub use made::{Made, Position};
+use put::{clear_rows, put_rows};
 
 // The body of a page: 40 rows of 72 bytes.
 pub type Body = [u8; BODY_BYTES];
-
-// The first `more` rows of the buffer, put below the first `rows` rows of the body.
-fn copy_rows(body: &mut Body, rows: usize, buffer: &RowBuffer, more: usize)
-    requires { (rows + more ≤ page_rows) × (more ≤ step_rows) }
-    ensures { body.new ≡ paste body.old (rows * row_width) buffer.now (more * row_width) }
-{
-    let from = rows * ROW_WIDTH;
-    let bytes = more * ROW_WIDTH;
-    body[from..from + bytes].copy_from_slice(&buffer[0..bytes]);
-}
-
-// Spaces below the first `rows` rows of the body.
-fn clear_rows(body: &mut Body, rows: usize)
-    requires { rows ≤ page_rows }
-    ensures { body.new ≡ take (rows * row_width) body.old ++ replicate ((page_rows - rows) * row_width) 32 }
-{
-    body[rows * ROW_WIDTH..BODY_BYTES].fill(b' ');
-}
 
 // A line onto the page, where it fits below the rows there.
 fn place_line<E: Engine>(
     engine: &E,
     line: &[u8],
     state: E::State,
-    rows: usize,
+    rows: RowCount,
     body: &mut Body,
-) -> Placed<E::State>
-    requires { rows ≤ page_rows }
-    ensures { LineGives E.means ((E.model engine.now).step (E.means state) line.now) rows body.old result body.new }
+) -> Result<Placed<E::State>, EngineFault>
+    ensures { LineGives E.means ((E.model engine.now).step (E.means state) line.now) rows.count body.old result body.new }
 {
     let mut buffer = [0u8; STEP_ROWS * ROW_WIDTH];
     let (next, answer) = engine.step(state, line, &mut buffer);
-    match answer {
-        Err(fault) => Placed::Refused(fault),
-        Ok(more) => {
-            if rows + more > PAGE_ROWS {
-                return Placed::Over;
-            }
-            copy_rows(body, rows, &buffer, more);
-            Placed::On(next, more)
-        }
-    }
+    let more = answer?;
+    let Some(total) = put_rows(body, rows, &buffer, more) else {
+        return Ok(Placed::Over);
+    };
+    Ok(Placed::On(next, total))
 }
 
-// The end onto the page, where it fits below the rows there: its rows.
-fn place_end<E: Engine>(engine: &E, state: E::State, rows: usize, body: &mut Body) -> Option<usize>
-    requires { rows ≤ page_rows }
-    ensures { EndGives (E.means state) ((E.model engine.now).close (E.means state)) rows body.old result body.new }
+// The end onto the page, where it fits below the rows there: the rows that there are then.
+fn place_end<E: Engine>(
+    engine: &E,
+    state: E::State,
+    rows: RowCount,
+    body: &mut Body,
+) -> Option<RowCount>
+    ensures { EndGives (E.means state) ((E.model engine.now).close (E.means state)) rows.count body.old result body.new }
 {
     let mut buffer = [0u8; STEP_ROWS * ROW_WIDTH];
     let more = engine.close(state, &mut buffer);
-    if rows + more > PAGE_ROWS {
-        return None;
-    }
-    copy_rows(body, rows, &buffer, more);
-    Some(more)
+    put_rows(body, rows, &buffer, more)
 }
 
 // One item onto the page: a line, or the end where there is no such line.
@@ -88,23 +65,23 @@ fn place_item<E: Engine, L: LineStore>(
     store: &L,
     item: usize,
     state: E::State,
-    rows: usize,
+    rows: RowCount,
     body: &mut Body,
-) -> Placed<E::State>
-    requires { rows ≤ page_rows }
-    ensures { PlaceGives E.means (length (L.lines store.now)) item (stepped (E.model engine.now) (E.means state) (drop item (L.lines store.now))) (E.means state) rows body.old result body.new }
+) -> Result<Placed<E::State>, EngineFault>
+    ensures { PlaceGives E.means (length (L.lines store.now)) item (stepped (E.model engine.now) (E.means state) (drop item (L.lines store.now))) (E.means state) rows.count body.old result body.new }
 {
     let mut line = [0u8; LINE_LIMIT];
     match store.read(item, &mut line) {
         Ok(length) => place_line(engine, &line[0..length], state, rows, body),
         Err(_) => match place_end(engine, state, rows, body) {
-            Some(more) => Placed::End(more),
-            None => Placed::Over,
+            Some(total) => Ok(Placed::End(total)),
+            None => Ok(Placed::Over),
         },
     }
 }
 
-// Items from the position on, until one does not fit or the end is on the page.
+// Items from the position on, until one does not fit or the end is on the page. `items` is counted by hand: a `for` without an end
+// would need a line behind it that is never reached.
 fn fill_page<E: Engine, L: LineStore>(
     engine: &E,
     store: &L,
@@ -116,35 +93,35 @@ fn fill_page<E: Engine, L: LineStore>(
     let first = at.first;
     let mut state = at.state;
     let mut items = 0;
-    let mut rows = 0;
+    let mut rows = RowCount::none();
     'page: loop {
         match place_item(engine, store, first + items, state, rows, body) {
-            Placed::Refused(fault) => {
+            Err(fault) => {
                 return Err(LineFault {
                     fault,
                     line: first + items,
                     page: at.page,
                 });
             }
-            Placed::Over => {
+            Ok(Placed::Over) => {
                 clear_rows(body, rows);
                 return Ok(Filling {
                     items,
-                    rows,
+                    rows: rows.count,
                     next: Some(state),
                 });
             }
-            Placed::End(more) => {
-                clear_rows(body, rows + more);
+            Ok(Placed::End(total)) => {
+                clear_rows(body, total);
                 return Ok(Filling {
                     items: items + 1,
-                    rows: rows + more,
+                    rows: total.count,
                     next: None,
                 });
             }
-            Placed::On(next, more) => {
-                rows += more;
+            Ok(Placed::On(next, total)) => {
                 items += 1;
+                rows = total;
                 state = next;
             }
         }
@@ -165,7 +142,8 @@ pub fn first_position<E: Engine>(engine: &E) -> Position<E::State>
     }
 }
 
-// One page by the page rule: its numbers, its body, and where the next page begins.
+// One page by the page rule: its numbers, its body, and where the next page begins. Engine and store have types of their own and belong
+// to the caller apart; a struct of both would be made anew for each call, and no shorter to promise.
 pub fn make_page<E: Engine, L: LineStore>(
     engine: &E,
     store: &L,

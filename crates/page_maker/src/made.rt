@@ -1,4 +1,4 @@
-use engine::EngineFault;
+use super::count::RowCount;
 
 // Where a page begins: its number, its first item, and the state before that.
 #[derive(Clone, Copy)]
@@ -28,11 +28,10 @@ pub struct Filling<S> {
 // Where an item went.
 #[derive(Clone, Copy)]
 pub enum Placed<S> {
-    // A line is on the page, with the state after it and its rows.
-    On(S, usize),
-    // The end is on the page, with its rows.
-    End(usize),
+    // A line is on the page, with the state after it and the rows that there are then.
+    On(S, RowCount),
+    // The end is on the page, with the rows that there are then.
+    End(RowCount),
     // The item does not fit.
     Over,
-    Refused(EngineFault),
 }

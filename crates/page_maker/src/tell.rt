@@ -2,7 +2,8 @@ ghost use Rattle.std.specs.Prelude.{◌≡◌, Some};
 ghost use Rattle.line.specs.Faults.{told};
 ghost use Rattle.page_maker.specs.Faults.{refusal, number as number_of, values as values_of};
 
-use super::fault::PageFault;
+use super::fault::{LineFault, PageFault};
+use engine::EngineFault;
 use line::Layer;
 use std::fmt;
 
@@ -35,13 +36,13 @@ impl fmt::Display for PageFault {
     fn fmt<W: fmt::Write>(&self, f: &mut fmt::Formatter<W>) -> fmt::Result {
         let number = self.number();
         match self {
-            PageFault::Engine(refused) => {
-                let cause = refused.fault.cause;
-                let column = refused.fault.column;
-                let line = refused.line;
-                let page = refused.page;
-                write!(f, "{number} {cause} {column} {line} {page}")
-            }
+            PageFault::Engine(
+                LineFault {
+                    fault: EngineFault { cause, column },
+                    line,
+                    page,
+                },
+            ) => write!(f, "{number} {cause} {column} {line} {page}"),
             PageFault::TooManyPages { first, limit } => write!(f, "{number} {first} {limit}"),
         }
     }

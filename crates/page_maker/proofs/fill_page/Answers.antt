@@ -1,20 +1,24 @@
-use Rattle.std.proofs.Common.{◌+◌, ◌≤◌, length, arith}
-use Rattle.page_maker.proofs.Underway.{on, on_last, over, before_end}
+use Rattle.std.proofs.Common.{ℕ, ◌+◌, ◌≤◌, length, sym, subst, arith}
+use Rattle.page_maker.proofs.Underway.{Underway, begun, on, on_last}
 use Rattle.page_maker.proofs.fill_page.Goals as goal
 
-pub returns-in-Over : goal.returns-in-Over
-returns-in-Over g c =
-    let u = c.page.invariant in
-    let o = c.in-Over.ensures in
-    (before_end _ _ _ _ _ _ _ _ _ u _ _ o, over _ _ _ _ _ _ _ _ _ u _ _ o c.clear_rows.ensures)
+pub page-init : goal.page-init
+page-init g c =
+    let model = g.E.Engine.model c.args.engine.now in
+    let lines = g.L.LineStore.lines c.args.store.now in
+    let start = g.E.Engine.means c.args.at.state in
+    let P : ℕ → Type 0 = λ n. Underway model lines c.args.at.first start c.args.body.now 0 n start c.args.body.now in
+    subst P (sym c.none-rows.ensures) (begun model lines c.args.at.first start c.args.body.now)
 
-pub returns-in-End : goal.returns-in-End
-returns-in-End g c =
+pub returns-in-Ok-End : goal.returns-in-Ok-End
+returns-in-Ok-End g c =
     let u = c.page.invariant in
-    let o = c.in-End.ensures in
+    let o = rw c.in-Ok-End.field-0-is at c.in-Ok-End.ensures in
     let w = u.within in
     let h : length (g.L.LineStore.lines c.args.store.now) ≤ c.args.at.first + c.page.items = o.0 in
-    (omega arith, omega arith, on_last _ _ _ _ _ _ _ _ _ u _ _ _ o.1 h c.clear_rows-in-End.ensures)
+    (omega arith, omega arith, on_last _ _ _ _ _ _ _ _ _ u _ _ _ o.1 h c.clear_rows-in-Ok-End.ensures)
 
 pub page-preserved : goal.page-preserved
-page-preserved g c = let o = c.in-On.ensures in on _ _ _ _ _ _ _ _ _ c.page.invariant _ _ _ o.1 o.0
+page-preserved g c =
+    let o = rw c.in-Ok-On.field-0-is at c.in-Ok-On.ensures in
+    on _ _ _ _ _ _ _ _ _ c.page.invariant _ _ _ o.1 o.0
