@@ -1,9 +1,14 @@
 -- Splitting an input at its line feeds. Assumes nothing.
-use Rattle.std.proofs.Common.{◌≡◌, ℕ, ◌+◌, ◌-◌, ◌<◌, ◌≤◌, Bool, true, false, cond, eqb, List, [], ◌∷◌, ◌++◌, length, get_or, take, drop, sym, refl, ap, ◌∙◌, subst, append_assoc, arith, ne_eqb, eqb-true}
+use Rattle.std.proofs.Common.{◌≡◌, ℕ, ◌<◌, ◌≤◌, Bool, true, false, cond, eqb, List, [], ◌∷◌, ◌++◌, length, get_or, take, drop, Some, None, ◌≢◌, sym, refl, ap, ◌∙◌, subst, arith, ne_eqb, eqb-true, suc, add-one}
 use borrow.Author.Tests.{eqb-false}
 use Rattle.std.specs.List.{AllByRecursion}
-use Rattle.std.proofs.ByRecursion.{All-more}
-use Rattle.std.proofs.lemmas.List.{take-append-drop, drop-drop, drop_more, append-nil, get_or-drop, length-drop, take_all, take_rest, drop_all}
+use Rattle.std.proofs.ByRecursion.{All-from_get_or}
+use Rattle.std.proofs.lemmas.List.{length-take, get_or-take, take_all, drop-drop}
+use Rattle.std.specs.List.{position, position_or_len}
+use Rattle.std.proofs.lemmas.Grind.{common_steps}
+use Rattle.std.proofs.lemmas.List.Quantifiers.{position-Some}
+use Rattle.std.proofs.lemmas.List.Sums.{fails_before_first}
+use Rattle.std.proofs.Math.Seq.{split_at}
 use Rattle.log_input.specs.Splits.{line_feed, in_front, split, with_feeds, ended, Unbroken, SplitLaw}
 
 -- the first line, where a line feed ends it
@@ -75,50 +80,30 @@ law = record {
   only = λ input ls u e. sym (split_feeds ls u) ∙ ap split e ∙ split_ended input;
 }
 
--- a turn of the loop: what is left begins with the line so far
-module _ (input : List ℕ) (start i : ℕ) (low : start ≤ i) (in' : i < length input) (u : Unbroken (take (i - start) (drop start input))) where
-  at_i : drop (i - start) (drop start input) ≡ get_or input i 0 ∷ drop (i + 1) input
-  at_i =
-      let k : start + (i - start) ≡ i = omega arith in
-      drop-drop (i - start) start input ∙ ap (λ n. drop n input) k ∙ drop_more input i 0 in'
+-- bytes before the first line feed
+unbroken_take : (bytes : List ℕ) (i : ℕ) → i ≤ length bytes → ((k : ℕ) → k < i → eqb (get_or bytes k 0) line_feed ≡ false) → Unbroken (take i bytes)
+unbroken_take bytes i h other =
+    All-from_get_or (λ b. b ≢ line_feed) (take i bytes) 0
+    (λ k l. let b : k < i = omega (arith, length-take i bytes) in rw (get_or-take i bytes k 0 b) (eqb-false (get_or bytes k 0) line_feed (other k b)))
 
-  -- a line feed ends it
-  pub feed : get_or input i 0 ≡ line_feed → split (drop start input) ≡ take (i - start) (drop start input) ∷ split (drop (i + 1) input)
-  feed e =
-      ap split (sym (take-append-drop (i - start) (drop start input)) ∙ ap (λ l. take (i - start) (drop start input) ++ l) (at_i ∙ ap (λ b. b ∷ drop (i + 1) input) e))
-      ∙ split_first (take (i - start) (drop start input)) (drop (i + 1) input) u
+-- the first line feed ends the first line
+pub first_line : (bytes : List ℕ) (i : ℕ) → position (λ b. eqb b line_feed) bytes ≡ Some i → (i < length bytes) × (split bytes ≡ take i bytes ∷ split (drop 1 (drop i bytes)))
+first_line bytes i e =
+    let p = position-Some (λ b. eqb b line_feed) bytes i 0 e in
+    let feed = eqb-true (get_or bytes i 0) line_feed p.1 in
+    let u = unbroken_take bytes i (omega (arith, p.0)) p.2 in
+    let cut : bytes ≡ take i bytes ++ (line_feed ∷ drop 1 (drop i bytes)) =
+    split_at bytes i 0 p.0 ∙ ap (λ b. take i bytes ++ (b ∷ drop (suc i) bytes)) feed ∙ ap (λ l. take i bytes ++ (line_feed ∷ l)) (ap (λ n. drop n bytes) (sym (add-one i)) ∙ sym (drop-drop 1 i bytes))
+    in
+    (p.0, ap split cut ∙ split_first (take i bytes) (drop 1 (drop i bytes)) u)
 
-  -- any other byte is on it
-  pub longer : (get_or input i 0 ≡ line_feed → ⊥) → Unbroken (take (i + 1 - start) (drop start input))
-  longer n =
-      let k : i - start + 1 ≡ i + 1 - start = omega arith in
-      let j : start + (i - start) ≡ i = omega arith in
-      let g : get_or (drop start input) (i - start) 0 ≡ get_or input i 0 = get_or-drop start input (i - start) 0 ∙ ap (λ x. get_or input x 0) j in
-      let w : i - start < length (drop start input) = simp length-drop (omega arith) in
-      subst (λ x. Unbroken (take x (drop start input))) k (All-more (λ b. b ≡ line_feed → ⊥) (drop start input) (i - start) 0 w u (λ e. n (sym g ∙ e)))
+-- where there is none, all bytes are one line
+pub only_line : (bytes : List ℕ) → position (λ b. eqb b line_feed) bytes ≡ None → 0 < length bytes → split bytes ≡ bytes ∷ []
+only_line bytes e some =
+    let all : length bytes ≤ position_or_len (λ b. eqb b line_feed) bytes = grind (arith, common_steps) in
+    let u = unbroken_take bytes (length bytes) (omega arith) (λ k h. fails_before_first (λ b. eqb b line_feed) bytes k 0 (omega arith)) in
+    split_last bytes (subst Unbroken (take_all (length bytes) bytes (omega arith)) u) some
 
-  -- with the line among those that are done
-  pub feed_again : (done done' : List (List ℕ)) → done ++ split (drop start input) ≡ split input → done' ≡ done ++ (take (i - start) (drop start input) ∷ []) → get_or input i 0 ≡ line_feed → done' ++ split (drop (i + 1) input) ≡ split input
-  feed_again done done' h q e =
-      ap (λ l. l ++ split (drop (i + 1) input)) q
-      ∙ append_assoc done (take (i - start) (drop start input) ∷ []) (split (drop (i + 1) input))
-      ∙ ap (λ l. done ++ l) (sym (feed e))
-      ∙ h
-
--- no line has begun behind a line feed
-pub none_yet : (input : List ℕ) (n : ℕ) → Unbroken (take (n - n) (drop n input))
-none_yet input n = let z : n - n ≡ 0 = omega arith in subst (λ k. Unbroken (take k (drop n input))) (sym z) tt
-
--- at the end of the input
-pub rest_line : (input : List ℕ) (start i : ℕ) → start < length input → length input ≤ i → Unbroken (take (i - start) (drop start input)) → split (drop start input) ≡ drop start input ∷ []
-rest_line input start i h e u =
-    let n = length-drop start input in
-    split_last (drop start input) (subst Unbroken (take_all (i - start) (drop start input) (omega arith)) u) (omega arith)
-
-pub rest_again : (input : List ℕ) (start i : ℕ) (done done' : List (List ℕ)) → start < length input → length input ≤ i → Unbroken (take (i - start) (drop start input)) → done ++ split (drop start input) ≡ split input → done' ≡ done ++ (take (length input - start) (drop start input) ∷ []) → done' ≡ split input
-rest_again input start i done done' h e u all q =
-    q ∙ ap (λ l. done ++ (l ∷ [])) (take_rest input start) ∙ ap (λ l. done ++ l) (sym (rest_line input start i h e u)) ∙ all
-
--- no bytes behind the last line feed
-pub no_rest : (input : List ℕ) (start : ℕ) (done : List (List ℕ)) → length input ≤ start → done ++ split (drop start input) ≡ split input → done ≡ split input
-no_rest input start done h all = sym (append-nil done) ∙ ap (λ l. done ++ split l) (sym (drop_all start input h)) ∙ all
+pub no_line : (bytes : List ℕ) → length bytes ≡ 0 → split bytes ≡ []
+no_line [] h = refl
+no_line (b ∷ bs) h = absurd (omega arith)

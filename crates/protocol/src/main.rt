@@ -3,16 +3,19 @@
 
 use anyhow::anyhow;
 use engine::Engine;
+use failure::Failure;
 use formatting::{Printed, next_page};
-use line::{LineStore, StoreFault};
+use line::LineStore;
 use log_input::{load_lines, split_lines};
 use numberer::Numberer;
-use page_maker::{PageFault, first_position};
+use page_maker::first_position;
 use page_rule::BODY_BYTES;
 use report::print_page;
 use slot_store::SlotStore;
 use std::io::{Read, Write};
 use std::{env, fs};
+
+mod failure;
 
 // The most pages of a formatting.
 const PAGE_LIMIT: u16 = 256;
@@ -74,81 +77,59 @@ fn read_log(rt: &HostRuntime, file: Option<String>) -> anyhow::Result<Vec<u8>> {
 }
 
 // The lines of the log, in a store of their own.
-fn stored(rt: &HostRuntime, log: &[u8]) -> anyhow::Result<Result<SlotStore, StoreFault>> {
+fn stored(rt: &HostRuntime, log: &[u8]) -> Result<SlotStore, Failure> {
     let lines = split_lines(rt.alloc(), log)?;
     let mut store = SlotStore::new(rt.alloc(), SLOTS)?;
-    match load_lines(&mut store, lines.as_slice()) {
-        Ok(()) => Ok(Ok(store)),
-        Err(fault) => {
-            let line = store.count();
-            eprintln!(rt; "protocol: line {line} of the log is refused")?;
-            Ok(Err(fault))
-        }
+    if let Err(fault) = load_lines(&mut store, lines.as_slice()) {
+        let line = store.count();
+        eprintln!(rt; "protocol: line {line} of the log is refused")?;
+        return Err(fault.into());
     }
+    Ok(store)
 }
 
-// Prints the pages as they are made, and then the totals; or hands the fault back.
-fn print_pages<E: Engine>(
-    rt: &HostRuntime,
-    engine: &E,
-    store: &SlotStore,
-) -> anyhow::Result<Option<PageFault>> {
+// Prints the pages as they are made, and then the totals.
+fn print_pages<E: Engine>(rt: &HostRuntime, engine: &E, store: &SlotStore) -> Result<(), Failure> {
     let mut out = rt.stdout();
     let mut body = [b' '; BODY_BYTES];
     let mut at = first_position(engine);
     for _ in 0..=PAGE_LIMIT {
-        match next_page(engine, store, at, PAGE_LIMIT, &mut body) {
-            Err(fault) => return Ok(Some(fault)),
-            Ok(Printed::More(numbers, next)) => {
+        match next_page(engine, store, at, PAGE_LIMIT, &mut body)? {
+            Printed::More(numbers, next) => {
                 out.write_all(print_page(rt.alloc(), numbers, &body)?.as_slice())?;
                 at = next;
             }
-            Ok(Printed::Last(numbers, totals)) => {
+            Printed::Last(numbers, totals) => {
                 out.write_all(print_page(rt.alloc(), numbers, &body)?.as_slice())?;
                 println!(rt; "{totals}")?;
-                return Ok(None);
+                return Ok(());
             }
         }
     }
-    Err(anyhow!("there are more pages than the limit"))
+    Err(Failure::from(anyhow!("there are more pages than the limit")))
 }
 
-// Whether the log was accepted.
-fn number(rt: &HostRuntime, file: Option<String>) -> anyhow::Result<bool> {
+fn number(rt: &HostRuntime, file: Option<String>) -> Result<(), Failure> {
     let log = read_log(rt, file)?;
-    match stored(rt, log.as_slice())? {
-        Err(fault) => {
-            println!(rt; "refused {fault}")?;
-            Ok(false)
-        }
-        Ok(store) => match print_pages(rt, &Numberer, &store)? {
-            Some(fault) => {
-                println!(rt; "refused {fault}")?;
-                Ok(false)
-            }
-            None => Ok(true),
-        },
-    }
+    let store = stored(rt, log.as_slice())?;
+    print_pages(rt, &Numberer, &store)
 }
 
-fn run(rt: &HostRuntime) -> anyhow::Result<bool> {
+fn run(rt: &HostRuntime) -> Result<(), Failure> {
     match parse_words(rt)? {
-        Command::Help => {
-            println!(rt; "{HELP}")?;
-            Ok(true)
-        }
+        Command::Help => Ok(println!(rt; "{HELP}")?),
         Command::Number(file) => number(rt, file),
     }
 }
 
-// Status 0 where the log was accepted or help was asked for, else 1.
+// Status 0 where the log was accepted or help was asked for, else 1. An `Err` also prints itself to standard error, as an exit code
+// would not.
 fn main(rt: HostRuntime) -> Result<(), ()> {
-    match run(&rt) {
-        Ok(true) => Ok(()),
-        Ok(false) => Err(()),
-        Err(error) => {
-            let _ = eprintln!(rt; "protocol: {error}");
-            Err(())
-        }
+    let Err(failure) = run(&rt) else {
+        return Ok(());
+    };
+    if let Err(error) = failure.tell(&rt) {
+        let _ = eprintln!(rt; "protocol: {error}");
     }
+    Err(())
 }

@@ -5,7 +5,7 @@ ghost use Rattle.std.specs.Prelude.{◌≡◌, IfOk, Some};
 ghost use Rattle.report.specs.Texts.{page_head, page_text, totals};
 
 use engine::ROW_WIDTH;
-use page_rule::{BODY_BYTES, PAGE_ROWS};
+use page_rule::BODY_BYTES;
 use std::alloc::{AllocError, Global};
 use std::fmt;
 
@@ -17,11 +17,13 @@ impl fmt::Display for PageNumbers {
     ghost output = { λ n. Some (page_head n) };
 
     fn fmt<W: fmt::Write>(&self, f: &mut fmt::Formatter<W>) -> fmt::Result {
-        let page = self.page;
-        let first = self.first;
-        let items = self.items;
-        let rows = self.rows;
-        let steps = self.steps;
+        let PageNumbers {
+            page,
+            first,
+            items,
+            rows,
+            steps,
+        } = *self;
         write!(
             f,
             "page {page}: first {first}, items {items}, rows {rows}, steps {steps}"
@@ -33,8 +35,7 @@ impl fmt::Display for Totals {
     ghost output = { λ t. Some (totals t) };
 
     fn fmt<W: fmt::Write>(&self, f: &mut fmt::Formatter<W>) -> fmt::Result {
-        let pages = self.pages;
-        let steps = self.steps;
+        let Totals { pages, steps } = *self;
         write!(f, "pages {pages}, steps {steps}")
     }
 }
@@ -50,8 +51,8 @@ pub fn print_page(
     let head = numbers.to_string(heap)?;
     let mut text = Vec::from_slice(heap, head.as_bytes())?;
     text.push(b'\n')?;
-    for row in 0..PAGE_ROWS {
-        text.extend_from_slice(&body[row * ROW_WIDTH..(row + 1) * ROW_WIDTH])?;
+    for row in body.chunks_exact(ROW_WIDTH) {
+        text.extend_from_slice(row)?;
         text.push(b'\n')?;
     }
     Ok(text)

@@ -20,16 +20,19 @@ enum Place {
     Clustered,
 }
 
-impl Place {
-    fn named(name: &str) -> Place {
+impl From<&str> for Place {
+    fn from(name: &str) -> Place {
         match name {
             "front" => Place::Front,
             "end" => Place::End,
             _ => Place::Clustered,
         }
     }
+}
 
-    // The line that a turn edits, of so many.
+impl Place {
+    // The line that a turn edits, of so many. An enum is plainer here than a closure for each place: its name is read at run time, and a
+    // choice of closures would need a copy of the bench for each, or a box.
     fn line(self, turn: usize, count: usize) -> usize {
         match self {
             Place::Front => 0,
@@ -79,7 +82,7 @@ fn run(rt: &HostRuntime) -> anyhow::Result<()> {
     let mut words = env::args(rt)?;
     let _program = words.next();
     let store = words.next().context("no store")?;
-    let place = Place::named(words.next().context("no place")?.as_str());
+    let place = Place::from(words.next().context("no place")?.as_str());
     let turns = words
         .next()
         .context("no number of turns")?

@@ -1,7 +1,10 @@
-use Rattle.std.proofs.Common.{◌≡◌, ◌-◌, ◌≤◌, ◌++◌, map, take, drop, vec_items}
-use Rattle.log_input.specs.Splits.{split, Unbroken}
+use Rattle.std.proofs.Common.{◌≡◌, ◌++◌, map, length, vec_items}
+use Rattle.log_input.specs.Splits.{split}
 use Rattle.log_input.proofs.split.split_lines.Given as goal
 
--- the lines so far, and those of what is left behind them, are the lines of the input; no line feed stands between start and i
-abbrev pub invariant-loop-i : goal.invariant-loop-i
-invariant-loop-i l = (l.start ≤ l.i) × (map (λ x. x.now) (vec_items l.lines) ++ split (drop l.start l.input) ≡ split l.input) × Unbroken (take (l.i - l.start) (drop l.start l.input))
+-- the lines so far, and those of what is left behind them, are the lines of the input
+abbrev pub invariant-loop-end : goal.invariant-loop-end
+invariant-loop-end l = map (λ x. x.now) (vec_items l.lines) ++ split l.rest ≡ split l.input
+
+abbrev pub decreases-loop-end : goal.decreases-loop-end
+decreases-loop-end l = length l.rest
