@@ -8,7 +8,7 @@ pub struct Divisor {
 }
 
 impl Divisor {
-    // None exactly where the value is not above 0.
+    // None exactly where the value is not above 0, as the library's `NonZero` has it; a `TryFrom` would need an error type that says no more.
     pub fn new(value: i32) -> Option<Divisor>
         ensures { MatchOption result (value ≤ℤ pos 0) (λ d. d.value ≡ value) }
     {

@@ -15,6 +15,7 @@ pub use printed::Printed;
 
 // Makes the page that begins at the position. From the first position on, one call after the other makes the pages of the rule, in
 // their order, and the last one tells their number and the sum of their steps.
+// Engine and store stay two parameters: a struct of both would add a lifetime and a type to each signature.
 pub fn next_page<E: Engine, L: LineStore>(
     engine: &E,
     store: &L,

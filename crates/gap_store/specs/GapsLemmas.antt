@@ -1,12 +1,12 @@
 -- Lines around a gap: what the bytes hold is what is read back, and how much it takes. Assumes nothing.
 use Rattle.std.specs.Prelude.{◌≡◌, ℕ, ◌+◌, ◌-◌, ◌≤◌, List, length, take, drop}
 use Rattle.std.proofs.Common.{sym, ap, ◌∙◌, arith}
-use Rattle.std.proofs.lemmas.List.{length-append, length-take, length-drop, take-append-drop, take-take}
+use Rattle.std.proofs.lemmas.List.{length-append, length-take, length-drop, take-append-drop, take-take, take_at, drop_at}
 use Rattle.line.specs.Lines.{Line}
 use Rattle.line.specs.Stores.{charges}
 use Rattle.line.proofs.Charges.{charges_split}
 use Rattle.gap_store.specs.Records.{packed, unpacked, Packed, taken}
-use Rattle.gap_store.specs.Gaps.{gap_lines, Holds}
+use Rattle.gap_store.specs.Gaps.{gap_lines, Holds, Sound}
 use Rattle.gap_store.specs.declared.gap.Gap.{Gap}
 use Rattle.gap_store.specs.RecordsLemmas.{length_packed, length_unpacked, unpacked_take, packed_here, few_lines}
 
@@ -16,6 +16,20 @@ length_lines g bytes =
     let b = length_unpacked g.before (take g.front bytes) in
     let d = length_unpacked g.behind (drop g.back bytes) in
     omega arith
+
+-- two packed parts around a gap hold their lines
+pub sound_from : (g : Gap) (bytes : List ℕ) → g.front ≤ g.back → g.back ≤ length bytes → Packed g.before (take g.front bytes) → Packed g.behind (drop g.back bytes) → Sound g bytes
+sound_from g bytes apart within fore aft =
+    let xs : List Line = unpacked g.before (take g.front bytes) in
+    let ys : List Line = unpacked g.behind (drop g.back bytes) in
+    let l = length_unpacked g.before (take g.front bytes) in
+    record {
+      apart = apart;
+      within = within;
+      counted = sym (length_lines g bytes);
+      fore = sym fore ∙ ap packed (sym (take_at xs ys g.before l));
+      aft = sym aft ∙ ap packed (sym (drop_at xs ys g.before l));
+    }
 
 module _ (ls : List Line) (g : Gap) (bytes : List ℕ) (h : Holds ls g bytes) where
   counted : g.before + g.behind ≡ length ls

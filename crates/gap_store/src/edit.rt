@@ -2,7 +2,7 @@
 ghost use Rattle.std.specs.Prelude.{vec_len};
 ghost use Rattle.gap_store.specs.Records.{taken};
 ghost use Rattle.gap_store.specs.Gaps.{gap_lines};
-ghost use Rattle.gap_store.specs.Stored.{kept_by};
+ghost use Rattle.gap_store.specs.Stored.{sound_kept};
 
 use super::store::GapStore;
 use line::{CheckedLine, LineBuffer, LineStore, STORE_LIMIT, StoreFault, check_place};
@@ -14,7 +14,7 @@ impl LineStore for GapStore {
 
     ghost charge = { λ _. taken };
 
-    ghost kept = { λ s. kept_by s.memory s.gap s.sound s.few s.held };
+    ghost kept = { λ s. sound_kept s.memory s.gap s.sound s.few s.held };
 
     fn count(&self) -> usize {
         self.lines()

@@ -1,4 +1,5 @@
-// Edits of lines around a gap.
+// Edits of lines around a gap. There is no `impl Model`: a refused edit promises the whole store as it was, its memory too, and a model that
+// shows only the lines could not say so.
 ghost use Rattle.std.specs.Prelude.{◌≡◌, ◌+◌, ◌<◌, ◌≤◌, length, vec_len};
 ghost use Rattle.std.proofs.Math.Seq.{paste};
 ghost use Rattle.std.specs.List.{insert, remove};

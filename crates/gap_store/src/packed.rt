@@ -32,7 +32,7 @@ impl<'a> PackedLines<'a> {
         start
     }
 
-    // Where line `at` starts, from the end.
+    // Where line `at` starts, from the end; a walk over lengths too.
     fn backward(&self, at: usize) -> usize
         requires { at ≤ self.now.count }
         ensures { result ≡ length (packed (unpacked at self.now.bytes.now)) }

@@ -1,11 +1,23 @@
 -- Lines, their bytes and their faults. Assumes nothing.
-use Rattle.std.proofs.Common.{◌≡◌, ℕ, suc, ◌+◌, Bool, true, false, cond, not, ◌&&◌, leb, List, [], ◌∷◌, length, is_some, is_ok, Some, None, Ok, Err, Option, Result, sym, refl, ap, ◌∙◌, add-one, MatchResult}
+use Rattle.std.proofs.Common.{◌≡◌, ℕ, suc, ◌+◌, ◌<◌, Bool, true, false, cond, not, ◌&&◌, leb, List, [], ◌∷◌, length, get_or, drop, is_some, is_ok, Some, None, Ok, Err, Option, Result, sym, refl, ap, ◌∙◌, add-one, MatchResult}
+use Rattle.std.proofs.lemmas.List.{at_drop_more}
 use Rattle.std.specs.List.{position, position_from}
 use Rattle.std.proofs.lemmas.Iterator.Adapters.{position_from-zero}
 use Rattle.line.specs.declared.fault.StoreFault.{StoreFault}
 use Rattle.line.specs.declared.fault.StoreFault.TheVariants.{TooLong}
 use Rattle.line.specs.Lines.{printable, all_printable, bad_from, is_line, line_limit}
 use Rattle.line.specs.Faults.{or_else, byte_fault, line_fault}
+
+-- one byte on, by what it is
+pub bad_more : (bytes : List ℕ) (i b : ℕ) → i < length bytes → get_or bytes i 0 ≡ b → printable b ≡ true → bad_from i (drop i bytes) ≡ bad_from (i + 1) (drop (i + 1) bytes)
+bad_more bytes i b h e p =
+    let s = at_drop_more (bad_from i) bytes i 0 h in
+    s ∙ rw (e, p, add-one)
+
+pub bad_here : (bytes : List ℕ) (i b : ℕ) → i < length bytes → get_or bytes i 0 ≡ b → printable b ≡ false → bad_from i (drop i bytes) ≡ Some i
+bad_here bytes i b h e p =
+    let s = at_drop_more (bad_from i) bytes i 0 h in
+    s ∙ rw (e, p)
 
 -- the first byte that is not printable is the first that a line may not hold
 bad_position_from : (column : ℕ) (bytes : List ℕ) → position_from (λ b. not (printable b)) column bytes ≡ bad_from column bytes

@@ -44,6 +44,11 @@ lines_set ls at line h all = All-set _ ls at line h all
 place_first : (capacity : ℕ) (charge : ℕ → ℕ) (ls : List Line) (e : Edit) (f : StoreFault) → place_fault (length ls) e ≡ Some f → edit_fault capacity charge ls e ≡ Some f
 place_first capacity charge ls e f p = ap (λ o. or_else o (or_else (text_fault e) (full_fault capacity charge ls e))) p
 
+text_next : (capacity : ℕ) (charge : ℕ → ℕ) (ls : List Line) (e : Edit) (f : StoreFault) → place_fault (length ls) e ≡ None → text_fault e ≡ Some f → edit_fault capacity charge ls e ≡ Some f
+text_next capacity charge ls e f p t =
+    ap (λ o. or_else o (or_else (text_fault e) (full_fault capacity charge ls e))) p
+    ∙ ap (λ o. or_else o (full_fault capacity charge ls e)) t
+
 full_last : (capacity : ℕ) (charge : ℕ → ℕ) (ls : List Line) (e : Edit) → place_fault (length ls) e ≡ None → text_fault e ≡ None → edit_fault capacity charge ls e ≡ full_fault capacity charge ls e
 full_last capacity charge ls e p t =
     ap (λ o. or_else o (or_else (text_fault e) (full_fault capacity charge ls e))) p
@@ -72,9 +77,19 @@ module _ (capacity : ℕ) (charge : ℕ → ℕ) (ls : List Line) where
   replace_nowhere at n line e h =
       place_first capacity charge ls (replace at line) (NoLine at n) (rw (← e) (not_there at n (Some (NoLine at n)) h))
 
+  pub insert_nowhere : (at n : ℕ) (line : List ℕ) → n ≡ length ls → n < at → edit_fault capacity charge ls (insert at line) ≡ Some (NoLine at n)
+  insert_nowhere at n line e h =
+      place_first capacity charge ls (insert at line) (NoLine at n) (rw (← e) (grind (arith, nat_tests)))
+
   pub remove_nowhere : (at n : ℕ) → n ≡ length ls → n ≤ at → edit_fault capacity charge ls (remove at) ≡ Some (NoLine at n)
   remove_nowhere at n e h =
       place_first capacity charge ls (remove at) (NoLine at n) (rw (← e) (not_there at n (Some (NoLine at n)) h))
+
+  pub replace_no_line : (at : ℕ) (line : List ℕ) (f : StoreFault) → at < length ls → line_fault line ≡ Some f → edit_fault capacity charge ls (replace at line) ≡ Some f
+  replace_no_line at line f h t = text_next capacity charge ls (replace at line) f (there at (length ls) _ h) t
+
+  pub insert_no_line : (at : ℕ) (line : List ℕ) (f : StoreFault) → at ≤ length ls → line_fault line ≡ Some f → edit_fault capacity charge ls (insert at line) ≡ Some f
+  insert_no_line at line f h t = text_next capacity charge ls (insert at line) f (from_here at (length ls) _ h) t
 
   pub replace_full : (at used most : ℕ) (line : List ℕ) → used ≡ charges charge ls → most ≡ capacity → at < length ls → line_fault line ≡ None → capacity < charges charge (set ls at line) → edit_fault capacity charge ls (replace at line) ≡ Some (Full used most)
   replace_full at used most line u m h t over =

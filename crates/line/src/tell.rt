@@ -5,6 +5,7 @@ use super::fault::StoreFault;
 use super::layer::Layer;
 use std::fmt;
 
+// Each kind of fault has a layer and a number by a table of its own; no code takes faults of any kind, so there is no trait for them.
 impl StoreFault {
     // The layer of the fault.
     pub fn layer(&self) -> Layer

@@ -10,8 +10,8 @@ use Rattle.numberer.specs.Letters.{takes, InItsRange}
 use Rattle.numberer.specs.Numbering.{number_limit, rows_at, printed}
 
 -- a step of a text line, as it is computed
-pub printing : (n n' : ℤ) (stops : ℕ) (t : List ℕ) → n <ℤ pos 100000 → n' ≡ n +ℤ pos 1 → printed (record { number = n; stops = stops }) t ≡ goes (record { number = n'; stops = stops }) (rows_at (record { number = n; stops = stops }) t)
-printing n n' stops t h e =
+pub printing_rows : (n n' : ℤ) (stops : ℕ) (t : List ℕ) → n <ℤ pos 100000 → n' ≡ n +ℤ pos 1 → printed (record { number = n; stops = stops }) t ≡ goes (record { number = n'; stops = stops }) (rows_at (record { number = n; stops = stops }) t)
+printing_rows n n' stops t h e =
     let b : int_lt n number_limit ≡ true = grind (arith, ints) in
     simp (b, e)
 

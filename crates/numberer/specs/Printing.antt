@@ -1,10 +1,13 @@
--- Steps of the numberer: their rows are rows. Assumes nothing.
-use Rattle.std.specs.Prelude.{◌≡◌, ℕ, ◌-◌, ◌≤◌, Bool, true, false, cond, List, [], ◌∷◌, ◌++◌, length, take, drop, replicate, ℤ, pos, ◌+ℤ◌, nat_le, int_lt, refl}
+-- Steps of the numberer: their rows are rows, and what the code computes is the turn and the stop. Assumes nothing.
+use Rattle.std.specs.Prelude.{◌≡◌, ℕ, ◌-◌, ◌≤◌, Bool, true, false, cond, List, [], ◌∷◌, ◌++◌, length, take, drop, replicate, ℤ, pos, ◌+ℤ◌, ◌<ℤ◌, Some, Option, MatchOption, nat_le, unsigned_abs, int_lt, refl}
 use Rattle.std.proofs.Common.{◌∙◌, arith}
 use Rattle.std.proofs.lemmas.List.{length-append, length-replicate, length-take, length-drop}
+use Rattle.std.proofs.lemmas.Option.{MatchOption-at_some}
+use Rattle.std.proofs.lemmas.Int.{ints}
 use Rattle.line.specs.Lines.{Line, is_line}
 use Rattle.line.proofs.Edits.{line_short}
 use Rattle.engine.specs.Model.{Stepped, Stepped.goes, Sized, SizedStep, no_line}
+use Rattle.division.specs.declared.divisor.Divisor.{Divisor}
 use Rattle.division.specs.Floor.{quotient, remainder}
 use Rattle.numerals.proofs.RightAligned.{law}
 use Rattle.numerals.specs.Fields.{field}
@@ -62,3 +65,13 @@ sized_step m l = at (is_line l) refl
     at : (b : Bool) → is_line l ≡ b → SizedStep (cond b (obeyed m (said spelled takes l)) no_line)
     at true e = sized_obeyed m (length l) (said spelled takes l) (sound takes spelled l) (line_short l e)
     at false e = tt
+
+-- a step of a text line, as it is computed
+pub printing : (n n' q r : ℤ) (m : ℕ) (t : List ℕ) → n <ℤ pos 100000 → n' ≡ n +ℤ pos 1 → q ≡ quotient n m → r ≡ pos (remainder n m) → printed (record { number = n; stops = m }) t ≡ goes (record { number = n'; stops = m }) (rows_of q (unsigned_abs r) t)
+printing n n' q r m t h e f g =
+    let b : int_lt n number_limit ≡ true = grind (arith, ints) in
+    simp (b, e, f, g)
+
+-- a divisor that was made has the value that it was made of
+pub made_of : (o : Option Divisor) (d : Divisor) (P : Type 0) (v : ℤ) → o ≡ Some d → MatchOption o P (λ x. x.value ≡ v) → d.value ≡ v
+made_of o d P v e h = MatchOption-at_some P (λ x. x.value ≡ v) d e h

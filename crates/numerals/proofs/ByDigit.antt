@@ -1,5 +1,5 @@
 -- How a number is read, digit by digit. Assumes nothing.
-use Rattle.std.proofs.Common.{◌≡◌, ℕ, zero, suc, ◌^◌, ◌<◌, ◌≤◌, min, Bool, true, false, cond, List, [], ◌∷◌, length, get_or, pos, negsuc, neg_ℤ, Some, None, decimal, Option, refl, ap, ◌∙◌, arith, rules, ne_eqb, le-leb}
+use Rattle.std.proofs.Common.{◌≡◌, ℕ, zero, suc, ◌^◌, ◌<◌, ◌≤◌, min, Bool, true, false, cond, List, [], ◌∷◌, length, get_or, drop, pos, negsuc, neg_ℤ, Some, None, decimal, Option, refl, ap, ◌∙◌, arith, rules, eq-eqb, ne_eqb, le-leb}
 use Rattle.std.proofs.Math.Nat.{pow-le-pow_right}
 use Rattle.std.specs.Option.{option_map}
 use Rattle.std.specs.Str.{all_ascii_digits}
@@ -19,6 +19,11 @@ room n i h k = let p : 10 ^ i ≤ 10 ^ 8 = pow-le-pow_right (omega arith) k in o
 pub natural_is : (most : ℕ) (bs : List ℕ) → 1 ≤ length bs → length bs ≤ min most digit_limit → natural most bs ≡ reading 0 bs
 natural_is most bs some few = simp (le-leb 1 (length bs) some, le-leb (length bs) (min most digit_limit) few)
 
+-- with a minus in front, or none
+pub minus : (m : Bool) (most : ℕ) (bs : List ℕ) → m ≡ true → 0 < length bs → get_or bs 0 0 ≡ 45 → integer m most bs ≡ option_map (λ n. neg_ℤ (pos n)) (natural most (drop 1 bs))
+minus m most [] t h e = absurd (omega arith)
+minus m most (b ∷ bs) t h e = simp (t, eq-eqb b 45 e)
+
 own : IsNumeralModel (λ ds. all_ascii_digits ds ≡ true) (numeral 0)
 own = numerals_by_fold _ (search rules) numeral (search rules)
 
@@ -31,6 +36,14 @@ natural_decimal n h =
     natural_is digit_limit (decimal n) (omega (arith, decimal_nonempty n f)) (length-decimal-le digit_limit n (omega arith) h f) ∙ simp (d, v)
 
 -- no minus in front
+pub plain_empty : (m : Bool) (most : ℕ) (bs : List ℕ) → length bs < 1 → integer m most bs ≡ option_map pos (natural most bs)
+plain_empty m most [] h = refl
+plain_empty m most (b ∷ bs) h = absurd (omega arith)
+
+pub plain_no_minus : (m : Bool) (most : ℕ) (bs : List ℕ) → m ≡ false → integer m most bs ≡ option_map pos (natural most bs)
+plain_no_minus m most [] h = refl
+plain_no_minus m most (b ∷ bs) h = simp h
+
 pub plain_other : (m : Bool) (most : ℕ) (bs : List ℕ) → (get_or bs 0 0 ≡ 45 → ⊥) → integer m most bs ≡ option_map pos (natural most bs)
 plain_other m most [] h = refl
 plain_other true most (b ∷ bs) h = simp (ne_eqb b 45 h)

@@ -4,7 +4,7 @@ ghost use Rattle.numerals.specs.Reads.{natural as natural_of, integer as integer
 // The most digits that are ever taken.
 pub const DIGIT_LIMIT: usize = 9;
 
-// One digit or more, at most `most`, and nothing else.
+// One digit or more, at most `most`, and nothing else. The library's `parse` takes a plus in front too.
 fn natural(text: &[u8], most: usize) -> Option<u32>
     ensures value { result ≡ natural_of most text.now }
     ensures small { IfSome result (λ n. n < 1000000000) }

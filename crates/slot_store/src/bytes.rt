@@ -1,4 +1,4 @@
-// Slots as bytes.
+// Slots as bytes. Each function asks for another part of the memory, so there is no one fact that a type could keep for them.
 ghost use Rattle.std.specs.Prelude.{◌≡◌, ◌+◌, ◌-◌, ◌*◌, ◌≤◌, true, length};
 ghost use Rattle.line.specs.Lines.{is_line};
 ghost use Rattle.slot_store.specs.Slots.{slot_size, slot_at, slot_line, with_line, with_slots};

@@ -31,8 +31,8 @@ impl From<&str> for Place {
 }
 
 impl Place {
-    // The line that a turn edits, of so many. An enum is plainer here than a closure for each place: its name is read at run time, and a
-    // choice of closures would need a copy of the bench for each, or a box.
+    // The line that a turn edits, of so many. An enum is plainer here than closures: the name is matched once either
+    // way, and an enum says in its type which places there are.
     fn line(self, turn: usize, count: usize) -> usize {
         match self {
             Place::Front => 0,
@@ -87,6 +87,7 @@ fn run(rt: &HostRuntime) -> anyhow::Result<()> {
         .next()
         .context("no number of turns")?
         .parse::<usize>()?;
+    // Three types of store under three names: a `dyn` would time its own calls too.
     match store.as_str() {
         "slots" => bench(
             rt,

@@ -6,7 +6,7 @@ use Rattle.line.proofs.Edits.{insert_full, insert_many, insert_allowed}
 use Rattle.gap_store.specs.Records.{taken}
 use Rattle.gap_store.specs.Gaps.{gap_lines}
 use Rattle.gap_store.specs.GapsLemmas.{length_lines}
-use Rattle.gap_store.specs.Stored.{charged}
+use Rattle.gap_store.specs.Stored.{sound_charged}
 use Rattle.gap_store.proofs.edit.GapStoreLineStore.insert.Goals as goal
 use Rattle.gap_store.proofs.edit.GapStoreLineStore.insert.Goals.{then-lines-ge-STORE_LIMIT-via-then-lines-ge-STORE_LIMIT, then-lines-ge-STORE_LIMIT-via-else-lines-ge-STORE_LIMIT+then-bytes-room}
 
@@ -16,7 +16,7 @@ returns-then-lines-ge-STORE_LIMIT c =
     let line : List ℕ = c.args.line.now in
     let ls : List Line = gap_lines s.gap (vec_items s.memory) in
     let n = length_lines s.gap (vec_items s.memory) in
-    let all = charged s.memory s.gap s.sound in
+    let all = sound_charged s.memory s.gap s.sound in
     let more = charges_inserted taken ls c.args.at line in
     let none = c.in_ok-line.ensures.1 in
     let size = ap length c.in_ok-line.ensures.0 in
@@ -38,7 +38,7 @@ returns c =
     let line : List ℕ = c.args.line.now in
     let ls : List Line = gap_lines s.gap (vec_items s.memory) in
     let n = length_lines s.gap (vec_items s.memory) in
-    let all = charged s.memory s.gap s.sound in
+    let all = sound_charged s.memory s.gap s.sound in
     let more = charges_inserted taken ls c.args.at line in
     let a = s.sound.apart in
     let size = ap length c.in_ok-line.ensures.0 in

@@ -4,7 +4,7 @@ use Rattle.line.proofs.Edits.{remove_allowed}
 use Rattle.gap_store.specs.Records.{taken}
 use Rattle.gap_store.specs.Gaps.{gap_lines}
 use Rattle.gap_store.specs.GapsLemmas.{length_lines}
-use Rattle.gap_store.specs.Stored.{charged}
+use Rattle.gap_store.specs.Stored.{sound_charged}
 use Rattle.gap_store.proofs.edit.GapStoreLineStore.remove.Goals as goal
 
 pub returns : goal.returns
@@ -13,7 +13,7 @@ returns c =
     let ls : List Line = gap_lines s.gap (vec_items s.memory) in
     let n = length_lines s.gap (vec_items s.memory) in
     let f = s.few in
-    let all = charged s.memory s.gap s.sound in
+    let all = sound_charged s.memory s.gap s.sound in
     let place : c.args.at < length ls = omega (arith, c.in_ok-check_place.ensures) in
     record {
       allowed = remove_allowed (vec_len s.memory) taken ls c.args.at place (omega arith) (omega arith);

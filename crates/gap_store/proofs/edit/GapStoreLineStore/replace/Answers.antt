@@ -7,7 +7,7 @@ use Rattle.line.proofs.Edits.{replace_full, replace_allowed}
 use Rattle.gap_store.specs.Records.{taken}
 use Rattle.gap_store.specs.Gaps.{gap_lines}
 use Rattle.gap_store.specs.GapsLemmas.{length_lines}
-use Rattle.gap_store.specs.Stored.{charged}
+use Rattle.gap_store.specs.Stored.{sound_charged}
 use Rattle.gap_store.proofs.Moved.{put_back}
 use Rattle.gap_store.proofs.edit.GapStoreLineStore.replace.Goals as goal
 
@@ -21,7 +21,7 @@ returns-then-bytes-old c =
     let old = ap length c.line_at-old.ensures in
     let size = ap length c.bytes.ensures in
     let same = ap length c.in_ok-line.ensures.0 in
-    let all = charged s.memory s.gap s.sound in
+    let all = sound_charged s.memory s.gap s.sound in
     let more = charges_set taken ls c.args.at line place in
     record {
       first = replace_full (vec_len s.memory) taken ls c.args.at _ _ line (omega arith) c.len.ensures place c.in_ok-line.ensures.1 (omega arith);
@@ -38,10 +38,10 @@ insert_line-requires-clause-room c =
     let old = ap length c.line_at-old.ensures in
     let size = ap length c.bytes.ensures in
     let same = ap length c.in_ok-line.ensures.0 in
-    let all = charged s.memory s.gap s.sound in
+    let all = sound_charged s.memory s.gap s.sound in
     let more = charges_set taken ls c.args.at line place in
     let m = c.remove_line.new.self in
-    let now = charged m.memory m.gap m.sound in
+    let now = sound_charged m.memory m.gap m.sound in
     let lines = ap (charges taken) c.remove_line.ensures.lines in
     let less = charges_removed taken ls c.args.at place in
     let a = m.sound.apart in
@@ -57,7 +57,7 @@ returns c =
     let old = ap length c.line_at-old.ensures in
     let size = ap length c.bytes.ensures in
     let same = ap length c.in_ok-line.ensures.0 in
-    let all = charged s.memory s.gap s.sound in
+    let all = sound_charged s.memory s.gap s.sound in
     let more = charges_set taken ls c.args.at line place in
     let f = s.few in
     record {

@@ -10,7 +10,7 @@ use Rattle.gap_store.specs.Records.{record_of, taken}
 use Rattle.gap_store.specs.Gaps.{gap_lines, Holds, Sound}
 use Rattle.gap_store.specs.declared.gap.Gap.{Gap}
 use Rattle.gap_store.specs.GapsLemmas.{length_lines, read_back}
-use Rattle.gap_store.specs.Stored.{charged, held_all, now_sound, now_held, written_holds}
+use Rattle.gap_store.specs.Stored.{sound_charged, held_all, now_sound, now_held, written_holds}
 use Rattle.gap_store.proofs.Moved.{length_filled, holds_inserted}
 use Rattle.gap_store.proofs.store.GapStore.insert_line.Goals as goal
 
@@ -32,8 +32,8 @@ write_record-requires c =
     let m = c.move_gap.new.self in
     let line : List ℕ = c.args.line.bytes.now in
     let ls : List Line = gap_lines s.gap (vec_items s.memory) in
-    let was = charged s.memory s.gap s.sound in
-    let is = charged m.memory m.gap m.sound in
+    let was = sound_charged s.memory s.gap s.sound in
+    let is = sound_charged m.memory m.gap m.sound in
     let same = ap (charges taken) c.move_gap.ensures.lines in
     let a = s.sound.apart in
     let b = m.sound.apart in
@@ -48,8 +48,8 @@ invariant_of-self c =
     let m = c.move_gap.new.self in
     let line : List ℕ = c.args.line.bytes.now in
     let ls : List Line = gap_lines s.gap (vec_items s.memory) in
-    let was = charged s.memory s.gap s.sound in
-    let is = charged m.memory m.gap m.sound in
+    let was = sound_charged s.memory s.gap s.sound in
+    let is = sound_charged m.memory m.gap m.sound in
     let same = ap (charges taken) c.move_gap.ensures.lines in
     let a = s.sound.apart in
     let b = m.sound.apart in
@@ -75,8 +75,8 @@ returns-clause-lines c =
     let m = c.move_gap.new.self in
     let line : List ℕ = c.args.line.bytes.now in
     let ls : List Line = gap_lines s.gap (vec_items s.memory) in
-    let was = charged s.memory s.gap s.sound in
-    let is = charged m.memory m.gap m.sound in
+    let was = sound_charged s.memory s.gap s.sound in
+    let is = sound_charged m.memory m.gap m.sound in
     let same = ap (charges taken) c.move_gap.ensures.lines in
     let a = s.sound.apart in
     let b = m.sound.apart in
