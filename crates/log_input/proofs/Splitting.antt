@@ -114,6 +114,7 @@ ends bytes n h =
 abbrev pub without_feed : List ℕ → List ℕ
 without_feed part = cond (pointwise nat_eq (drop (length part - 1) part) (line_feed ∷ [])) (take (length part - 1) part) part
 
+-- what the call that takes off a line feed leaves of a part
 pub stripped : (part : Bor (List ℕ)) (shorter : Option (Bor (List ℕ)))
     → MatchOption shorter (pointwise nat_eq (drop (length part.now - 1) part.now) (line_feed ∷ []) ≡ false) (λ x. (pointwise nat_eq (drop (length part.now - 1) part.now) (line_feed ∷ []) ≡ true) × (x.now ≡ take (length part.now - 1) part.now) × (length x.now + 1 ≡ length part.now))
     → (unwrap_or shorter part).now ≡ without_feed part.now
