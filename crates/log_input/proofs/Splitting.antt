@@ -1,14 +1,14 @@
 -- Splitting an input at its line feeds. Assumes nothing.
-use Rattle.std.proofs.Common.{◌≡◌, ℕ, ◌<◌, ◌≤◌, Bool, true, false, cond, eqb, List, [], ◌∷◌, ◌++◌, length, get_or, take, drop, Some, None, ◌≢◌, sym, refl, ap, ◌∙◌, subst, arith, ne_eqb, eqb-true, suc, add-one}
+use Rattle.std.proofs.Common.{◌≡◌, ℕ, ◌+◌, ◌-◌, ◌<◌, ◌≤◌, Bool, true, false, ◌&&◌, cond, eqb, nat_eq, List, [], ◌∷◌, ◌++◌, length, get_or, take, drop, min, ◌≢◌, sym, refl, ap, ◌∙◌, subst, arith, ne_eqb, eqb-true, suc, append-nil, ⊎_elim, Bor, Option, Some, None}
 use borrow.Author.Tests.{eqb-false}
-use Rattle.std.specs.List.{AllByRecursion}
+use Rattle.std.specs.Cmp.Lexicographic.{pointwise}
+use Rattle.std.specs.List.{AllByRecursion, AllWithin, IsFirstMatchOrLen}
+use Rattle.std.specs.Option.{MatchOption, unwrap_or}
 use Rattle.std.proofs.ByRecursion.{All-from_get_or}
-use Rattle.std.proofs.lemmas.List.{length-take, get_or-take, take_all, drop-drop}
-use Rattle.std.specs.List.{position, position_or_len}
+use Rattle.std.proofs.lemmas.Bool.{cases_lt}
+use Rattle.std.proofs.lemmas.List.{length-take, length-drop, length-append, get_or-take, get_or_append_left, take_all, nil_from_length}
 use Rattle.std.proofs.lemmas.Grind.{common_steps}
-use Rattle.std.proofs.lemmas.List.Quantifiers.{position-Some}
-use Rattle.std.proofs.lemmas.List.Sums.{fails_before_first}
-use Rattle.std.proofs.Math.Seq.{split_at}
+use Rattle.std.proofs.Math.Seq.{split_at, drop-cons}
 use Rattle.log_input.specs.Splits.{line_feed, in_front, split, with_feeds, ended, Unbroken, SplitLaw}
 
 -- the first line, where a line feed ends it
@@ -81,28 +81,71 @@ law = record {
 }
 
 -- bytes before the first line feed
-unbroken_take : (bytes : List ℕ) (i : ℕ) → i ≤ length bytes → ((k : ℕ) → k < i → eqb (get_or bytes k 0) line_feed ≡ false) → Unbroken (take i bytes)
+unbroken_take : (bytes : List ℕ) (i : ℕ) → i ≤ length bytes → AllWithin (λ b. nat_eq b line_feed ≡ false) bytes 0 i → Unbroken (take i bytes)
 unbroken_take bytes i h other =
     All-from_get_or (λ b. b ≢ line_feed) (take i bytes) 0
-    (λ k l. let b : k < i = omega (arith, length-take i bytes) in rw (get_or-take i bytes k 0 b) (eqb-false (get_or bytes k 0) line_feed (other k b)))
+    (λ k l. let b : k < i = omega (arith, length-take i bytes) in rw (get_or-take i bytes k 0 b) (eqb-false (get_or bytes k 0) line_feed (other k 0 (omega arith) b)))
 
 -- the first line feed ends the first line
-pub first_line : (bytes : List ℕ) (i : ℕ) → position (λ b. eqb b line_feed) bytes ≡ Some i → (i < length bytes) × (split bytes ≡ take i bytes ∷ split (drop 1 (drop i bytes)))
-first_line bytes i e =
-    let p = position-Some (λ b. eqb b line_feed) bytes i 0 e in
-    let feed = eqb-true (get_or bytes i 0) line_feed p.1 in
-    let u = unbroken_take bytes i (omega (arith, p.0)) p.2 in
-    let cut : bytes ≡ take i bytes ++ (line_feed ∷ drop 1 (drop i bytes)) =
-    split_at bytes i 0 p.0 ∙ ap (λ b. take i bytes ++ (b ∷ drop (suc i) bytes)) feed ∙ ap (λ l. take i bytes ++ (line_feed ∷ l)) (ap (λ n. drop n bytes) (sym (add-one i)) ∙ sym (drop-drop 1 i bytes))
-    in
-    (p.0, ap split cut ∙ split_first (take i bytes) (drop 1 (drop i bytes)) u)
+first_line : (bytes : List ℕ) (i : ℕ) → i < length bytes → IsFirstMatchOrLen (λ b. nat_eq b line_feed) bytes i → split bytes ≡ take i bytes ∷ split (drop (suc i) bytes)
+first_line bytes i h first =
+    let feed = eqb-true (get_or bytes i 0) line_feed (first.1 h 0) in
+    let cut : bytes ≡ take i bytes ++ (line_feed ∷ drop (suc i) bytes) = split_at bytes i 0 h ∙ ap (λ b. take i bytes ++ (b ∷ drop (suc i) bytes)) feed in
+    ap split cut ∙ split_first (take i bytes) (drop (suc i) bytes) (unbroken_take bytes i (omega arith) first.0)
 
 -- where there is none, all bytes are one line
-pub only_line : (bytes : List ℕ) → position (λ b. eqb b line_feed) bytes ≡ None → 0 < length bytes → split bytes ≡ bytes ∷ []
-only_line bytes e some =
-    let all : length bytes ≤ position_or_len (λ b. eqb b line_feed) bytes = grind (arith, common_steps) in
-    let u = unbroken_take bytes (length bytes) (omega arith) (λ k h. fails_before_first (λ b. eqb b line_feed) bytes k 0 (omega arith)) in
+only_line : (bytes : List ℕ) (i : ℕ) → length bytes ≤ i → 0 < length bytes → IsFirstMatchOrLen (λ b. nat_eq b line_feed) bytes i → split bytes ≡ bytes ∷ []
+only_line bytes i h some first =
+    let u = unbroken_take bytes (length bytes) (omega arith) (λ k d low high. first.0 k d low (omega arith)) in
     split_last bytes (subst Unbroken (take_all (length bytes) bytes (omega arith)) u) some
+
+-- whether bytes end with a line feed, from their last byte
+ends : (bytes : List ℕ) (n : ℕ) → length bytes ≡ suc n → pointwise nat_eq (drop (length bytes - 1) bytes) (line_feed ∷ []) ≡ nat_eq (get_or bytes n 0) line_feed
+ends bytes n h =
+    ap (λ k. pointwise nat_eq (drop k bytes) (line_feed ∷ [])) (omega arith)
+    ∙ ap (λ l. pointwise nat_eq l (line_feed ∷ [])) (drop-cons bytes n 0 (omega arith) ∙ ap (λ l. get_or bytes n 0 ∷ l) (nil_from_length (drop (suc n) bytes) (omega (arith, length-drop (suc n) bytes))))
+    ∙ alone (nat_eq (get_or bytes n 0) line_feed)
+  where
+    alone : (v : Bool) → v && true ≡ v
+    alone true = refl
+    alone false = refl
+
+-- a part without the line feed that ends it, if one does
+abbrev pub without_feed : List ℕ → List ℕ
+without_feed part = cond (pointwise nat_eq (drop (length part - 1) part) (line_feed ∷ [])) (take (length part - 1) part) part
+
+-- what the call that takes off a line feed leaves of a part
+pub stripped : (part : Bor (List ℕ)) (shorter : Option (Bor (List ℕ)))
+    → MatchOption shorter (pointwise nat_eq (drop (length part.now - 1) part.now) (line_feed ∷ []) ≡ false) (λ x. (pointwise nat_eq (drop (length part.now - 1) part.now) (line_feed ∷ []) ≡ true) × (x.now ≡ take (length part.now - 1) part.now) × (length x.now + 1 ≡ length part.now))
+    → (unwrap_or shorter part).now ≡ without_feed part.now
+stripped part None h = sym (ap (λ v. cond v (take (length part.now - 1) part.now) part.now) h)
+stripped part (Some x) h = h.1 ∙ sym (ap (λ v. cond v (take (length part.now - 1) part.now) part.now) h.0)
+
+-- a part up to the first line feed, or to the end, is the first line
+pub first_part : (bytes part rest : List ℕ) (i : ℕ) → bytes ≡ part ++ rest → length part ≡ min (i + 1) (length bytes) → 0 < length bytes → IsFirstMatchOrLen (λ b. nat_eq b line_feed) bytes i
+    → split bytes ≡ without_feed part ∷ split rest
+first_part bytes part rest i cut long some first = ⊎_elim fed last (cases_lt i (length bytes))
+  where
+    fed : i < length bytes → split bytes ≡ without_feed part ∷ split rest
+    fed h =
+        let n : length part ≡ suc i = omega (arith, long) in
+        let feed : nat_eq (get_or part i 0) line_feed ≡ true = sym (ap (λ l. nat_eq (get_or l i 0) line_feed) cut ∙ ap (λ b. nat_eq b line_feed) (get_or_append_left part rest 0 i (omega arith))) ∙ first.1 h 0 in
+        let front : take i bytes ≡ take (length part - 1) part = grind (arith, common_steps) in
+        let behind : drop (suc i) bytes ≡ rest = grind (arith, common_steps) in
+        first_line bytes i h first
+        ∙ (λ j. front j ∷ split (behind j))
+        ∙ ap (λ v. cond v (take (length part - 1) part) part ∷ split rest) (sym (ends part i n ∙ feed))
+
+    last : length bytes ≤ i → split bytes ≡ without_feed part ∷ split rest
+    last h =
+        let n : length part ≡ length bytes = omega (arith, long) in
+        let all : length bytes ≡ length part + length rest = ap length cut ∙ length-append part rest in
+        let none : rest ≡ [] = nil_from_length rest (omega arith) in
+        let whole : bytes ≡ part = cut ∙ ap (λ l. part ++ l) none ∙ append-nil part in
+        let other : nat_eq (get_or part (length part - 1) 0) line_feed ≡ false = ap (λ l. nat_eq (get_or l (length part - 1) 0) line_feed) (sym whole) ∙ first.0 (length part - 1) 0 (omega arith) (omega arith) in
+        only_line bytes i h some first
+        ∙ (λ j. whole j ∷ split (sym none j))
+        ∙ ap (λ v. cond v (take (length part - 1) part) part ∷ split rest) (sym (ends part (length part - 1) (omega arith) ∙ other))
 
 pub no_line : (bytes : List ℕ) → length bytes ≡ 0 → split bytes ≡ []
 no_line [] h = refl

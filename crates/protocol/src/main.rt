@@ -64,10 +64,7 @@ fn parse_words(rt: &HostRuntime) -> anyhow::Result<Command> {
 // The bytes of the log.
 fn read_log(rt: &HostRuntime, file: Option<String>) -> anyhow::Result<Vec<u8>> {
     match file {
-        Some(path) => match fs::read(rt, path.as_str()) {
-            Ok(bytes) => Ok(bytes),
-            Err(error) => Err(anyhow!("{path}: {error}")),
-        },
+        Some(path) => fs::read(rt, path.as_str()).map_err(|error| anyhow!("{path}: {error}")),
         None => {
             let mut bytes = Vec::new(rt.alloc());
             rt.stdin().read_to_end(&mut bytes)?;
