@@ -95,7 +95,7 @@ fn fill_page<E: Engine, L: LineStore>(
     let mut state = at.state;
     let mut items = 0;
     let mut rows = RowCount::none();
-    'page: loop {
+    let (items, rows, next) = 'page: loop {
         let item = first + items;
         let placed = place_item(engine, store, item, state, rows, body).map_err(
             |fault| LineFault {
@@ -105,29 +105,21 @@ fn fill_page<E: Engine, L: LineStore>(
             },
         )?;
         match placed {
-            Placed::Over => {
-                clear_rows(body, rows);
-                return Ok(Filling {
-                    items,
-                    rows: rows.count,
-                    next: Some(state),
-                });
-            }
-            Placed::End(total) => {
-                clear_rows(body, total);
-                return Ok(Filling {
-                    items: items + 1,
-                    rows: total.count,
-                    next: None,
-                });
-            }
+            Placed::Over => break 'page (items, rows, Some(state)),
+            Placed::End(total) => break 'page (items + 1, total, None),
             Placed::On(next, total) => {
                 items += 1;
                 rows = total;
                 state = next;
             }
         }
-    }
+    };
+    clear_rows(body, rows);
+    Ok(Filling {
+        items,
+        rows: rows.count,
+        next,
+    })
 }
 
 // Where page 0 begins: what the rule has from there on is the whole formatting.
