@@ -1,5 +1,5 @@
 -- Places that are marked as used, and the lowest that is not.
-use Rattle.std.proofs.Common.{◌≡◌, ℕ, ◌<◌, ◌≤◌, Bool, true, false, ◌||◌, ltb, eqb, List, ◌++◌, get_or, is_some, not, Decides, Some, None, Option, sym, refl, ◌∙◌, arith, MatchOption}
+use Rattle.std.proofs.Common.{◌≡◌, ℕ, ◌<◌, ◌≤◌, Bool, true, false, ◌||◌, ltb, eqb, List, ◌++◌, get_or, length, is_some, not, Decides, Some, None, Option, sym, refl, ◌∙◌, arith, MatchOption}
 use Rattle.std.specs.List.{list_any}
 use Rattle.std.proofs.lemmas.Bool.{ltb-false, ltb-true}
 use Rattle.std.proofs.lemmas.Bool.Decides.{nat_tests}
@@ -26,11 +26,13 @@ module _ (i : Index) (used : List Bool) (within : i.places ≤ most_places) (mar
       let u = free.unused in
       omega arith
 
-  pub lowest : (r : Option ℕ) → MatchOption r ((x : ℕ) → x < i.places → get_or used x false ≡ true) (λ x. (x < i.places) × (get_or used x false ≡ false) × ((y : ℕ) → y < x → get_or used y false ≡ true)) → FreeGives i r
-  lowest (Some x) h =
-      let n = ltb-false 0 (users (i.pages ++ i.made) x) (sym (marked x (omega (arith, h.0))) ∙ h.1) in
-      (record { within = h.0; unused = omega arith }, λ y l. is_used y (omega (arith, h.0)) (h.2 y l))
-  lowest None h = λ y free. is_used y free.within (h y free.within) free
+  pub lowest : (front : List Bool) → length front ≡ i.places → ((x : ℕ) → x < i.places → get_or front x false ≡ get_or used x false) → (r : Option ℕ)
+      → MatchOption r ((x : ℕ) → x < length front → get_or front x false ≡ true) (λ x. (x < length front) × (get_or front x false ≡ false) × ((y : ℕ) → y < x → get_or front y false ≡ true)) → FreeGives i r
+  lowest front long same (Some x) h =
+      let w : x < i.places = omega (arith, h.0) in
+      let n = ltb-false 0 (users (i.pages ++ i.made) x) (sym (marked x (omega arith)) ∙ sym (same x w) ∙ h.1) in
+      (record { within = w; unused = omega arith }, λ y l. let v : y < i.places = omega arith in is_used y v (sym (same y v) ∙ h.2 y l))
+  lowest front long same None h = λ y free. let v = free.within in is_used y v (sym (same y v) ∙ h y (omega arith)) free
 
 pub found : (i : Index) (r : Option ℕ) → Sound i → FreeGives i r → NeedsPlace i → is_some r ≡ true
 found i (Some x) sound gives needs = refl

@@ -23,7 +23,7 @@ PageGives i k (Ok p) = slice_get i.pages k ≡ Some p
 PageGives i k (Err f) = (length i.pages ≤ k) × (refusal f ≡ not_there k)
 
 -- one of some pages that meets a condition, or none where no page does
-pub record FirstGives (ps : List PageEntry) (meets : PageEntry → Bool → Type 0) (r : Option PageAt) : Type 0 where
+pub record FoundGives (ps : List PageEntry) (meets : PageEntry → Bool → Type 0) (r : Option PageAt) : Type 0 where
   pub gives : MatchOption r ((k : ℕ) (p : PageEntry) → slice_get ps k ≡ Some p → meets p false) (λ at. (slice_get ps at.number ≡ Some at.page) × meets at.page true)
 
 -- the page that holds an item

@@ -2,7 +2,7 @@ ghost use Rattle.std.specs.Prelude.{◌≡◌, true, length, is_some};
 ghost use Rattle.std.specs.Fn.{FnReturnsAt};
 ghost use Rattle.page_table.specs.Indexes.{index_of};
 ghost use Rattle.page_table.specs.Free.{NeedsPlace};
-ghost use Rattle.page_index.specs.Promise.{PageGives, HolderGives, BeginnerGives, FreeGives, FirstGives};
+ghost use Rattle.page_index.specs.Promise.{PageGives, HolderGives, BeginnerGives, FreeGives, FoundGives};
 
 use super::fault::PageSetFault;
 use super::index::PageIndex;
@@ -25,10 +25,10 @@ pub struct PageAt {
     pub page: PageEntry,
 }
 
-// The first page that meets a condition.
-fn first_page<F: Fn(&PageEntry) -> bool>(pages: &[PageEntry], meets: F) -> Option<PageAt>
+// A page that meets a condition.
+fn find_page<F: Fn(&PageEntry) -> bool>(pages: &[PageEntry], meets: F) -> Option<PageAt>
     requires { F.IsAlwaysCallable meets }
-    ensures { FirstGives pages.now (FnReturnsAt F.Fn meets) result }
+    ensures { FoundGives pages.now (FnReturnsAt F.Fn meets) result }
 {
     let number = pages.iter().position(|page| meets(page))?;
     Some(PageAt {
@@ -61,7 +61,7 @@ impl PageIndex {
     pub fn page_holding(&self, item: usize) -> Option<PageAt>
         ensures { HolderGives (index_of self.now.table) item result }
     {
-        first_page(
+        find_page(
             self.pages(),
             |page| page.first <= item && item - page.first < page.items,
         )
@@ -71,7 +71,7 @@ impl PageIndex {
     pub fn page_from(&self, item: usize) -> Option<PageAt>
         ensures { BeginnerGives (index_of self.now.table) item result }
     {
-        first_page(self.pages(), |page| page.first == item)
+        find_page(self.pages(), |page| page.first == item)
     }
 
     // The lowest free place; there is one wherever one more page may be made.
@@ -82,6 +82,6 @@ impl PageIndex {
         let mut used = [false; MOST_PLACES];
         mark_places(self.pages(), &mut used);
         mark_places(self.made(), &mut used);
-        first_unused(&used, self.table.places)
+        first_unused(&used[..self.table.places])
     }
 }

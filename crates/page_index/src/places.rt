@@ -1,4 +1,4 @@
-ghost use Rattle.std.specs.Prelude.{◌≡◌, ℕ, ◌<◌, ◌≤◌, true, false, ◌||◌, ◌==◌, Some, MatchOption, slice_index_or};
+ghost use Rattle.std.specs.Prelude.{◌≡◌, ℕ, ◌<◌, true, false, ◌||◌, ◌==◌, Some, MatchOption, length, slice_index_or};
 ghost use Rattle.std.specs.List.{list_any};
 ghost use Rattle.page_table.specs.Sound.{most_places, Within};
 
@@ -22,9 +22,8 @@ pub(super) fn mark_places(entries: &[PageEntry], used: &mut [bool; MOST_PLACES])
 }
 
 // The first place that is not used.
-pub(super) fn first_unused(used: &[bool; MOST_PLACES], places: usize) -> Option<usize>
-    requires { places ≤ most_places }
-    ensures { MatchOption result ((x : ℕ) → x < places → slice_index_or used.now x false ≡ true) (λ x. (x < places) × (slice_index_or used.now x false ≡ false) × ((y : ℕ) → y < x → slice_index_or used.now y false ≡ true)) }
+pub(super) fn first_unused(used: &[bool]) -> Option<usize>
+    ensures { MatchOption result ((x : ℕ) → x < length used.now → slice_index_or used.now x false ≡ true) (λ x. (x < length used.now) × (slice_index_or used.now x false ≡ false) × ((y : ℕ) → y < x → slice_index_or used.now y false ≡ true)) }
 {
-    used.iter().take(places).position(|taken| !*taken)
+    used.iter().position(|taken| !*taken)
 }

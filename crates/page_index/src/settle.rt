@@ -14,9 +14,17 @@ use super::places::has_place;
 use page_rule::{Marks, PAGE_ROWS};
 use page_table::{MOST_PAGES, Numbers, PageEntry, PageTable, Phase, Way};
 
-// The pages from `over` on, with their first items moved as the end has moved, behind the first `made` pages under way. `made` and `over`
-// are numbers, and the entries are written by them: a part with a start of an array behind a lent reference gets no generated proof, and
-// nothing is known of what an adapter of `iter_mut` wrote.
+// The first items of pages, moved as the end has moved.
+fn move_firsts(pages: &mut [PageEntry], numbers: Numbers)
+    requires { Movable numbers pages.old }
+    ensures { pages.new ≡ taken_over numbers pages.old }
+{
+    for page in pages.iter_mut() {
+        page.first = page.first + numbers.items_now - numbers.items_then;
+    }
+}
+
+// The pages from `over` on, with their first items moved as the end has moved, behind the first `made` pages under way.
 fn move_taken(
     under_way: &mut [PageEntry],
     made: usize,
@@ -29,12 +37,9 @@ fn move_taken(
     requires first { Movable numbers (drop over pages.now) }
     ensures { under_way.new ≡ paste under_way.old made (taken_over numbers (drop over pages.now)) (length pages.now - over) }
 {
-    for (k, page) in pages[over..].iter().enumerate() {
-        under_way[made + k] = PageEntry {
-            first: page.first + numbers.items_now - numbers.items_then,
-            ..*page
-        };
-    }
+    let part = &mut under_way[made..made + (pages.len() - over)];
+    part.copy_from_slice(&pages[over..]);
+    move_firsts(part, numbers);
 }
 
 // Pages that were under way, from page number `restart` on.
@@ -46,6 +51,7 @@ fn put_made(pages: &mut [PageEntry], restart: usize, made: &[PageEntry])
 }
 
 // The first `made` pages under way, and the pages from `over` on, take the place of the pages from the restart page on.
+// `restart`, `made` and `over` are numbers, since no slice of the table can be lent beside the table itself.
 fn settle_table(table: &mut PageTable, restart: usize, made: usize, over: usize)
     requires restart { restart ≡ (way_of table.old.phase).restart }
     requires over { over ≤ table.old.count }

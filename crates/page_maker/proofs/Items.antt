@@ -1,13 +1,13 @@
 -- One item, by the lines from it on. Assumes nothing.
-use Rattle.std.proofs.Common.{◌≡◌, ℕ, ◌-◌, ◌<◌, ◌≤◌, List, [], ◌++◌, length, get_or, take, drop, Ok, Err, Result, sym, ap, ◌∙◌, subst, arith, drop_of_length-le, drop-cons}
+use Rattle.std.proofs.Common.{◌≡◌, ℕ, ◌-◌, ◌<◌, List, [], ◌++◌, length, get_or, take, drop, Ok, Err, Result, sym, ap, ◌∙◌, subst, arith, drop-cons}
 use Rattle.std.proofs.lemmas.List.{take_at}
 use Rattle.line.specs.Lines.{Line}
 use Rattle.engine.specs.declared.EngineFault.{EngineFault}
-use Rattle.engine.specs.Model.{Stepped, Stepped.goes, Model}
+use Rattle.engine.specs.Model.{Stepped, Model}
 use Rattle.page_rule.specs.Filling.{stepped}
 use Rattle.page_maker.specs.declared.made.Placed.{Placed}
 use Rattle.page_maker.specs.declared.made.Placed.TheVariants.{On, End, Over}
-use Rattle.page_maker.specs.Promise.{LineGives, PlaceGives, ItemOn, ItemOver}
+use Rattle.page_maker.specs.Promise.{LineGives, PlaceGives}
 
 -- the line at the front of the buffer that it was read to
 pub read_is : (line before after : List ℕ) (n : ℕ) → n ≡ length line → after ≡ line ++ drop n before → take (n - 0) after ≡ line
@@ -27,13 +27,3 @@ module _ {M S : Type 0} (means : S → M) (e : Model M) (lines : List Line) (ite
   pub line_placed : (line : Line) (r : Result (Placed S) EngineFault) → item < length lines → line ≡ get_or lines item [] → LineGives means (e.step m line) rows before r after → PlaceGives means (length lines) item (stepped e m (drop item lines)) m rows before r after
   line_placed line r h q p =
       placed (stepped e m (drop item lines)) r h (subst (λ x. LineGives means x rows before r after) (ap (e.step m) q ∙ sym (line_step h)) p)
-
-  -- the end
-  end_step : length lines ≤ item → stepped e m (drop item lines) ≡ goes m (e.close m)
-  end_step h = ap (stepped e m) (drop_of_length-le lines h)
-
-  pub end_on : (total : ℕ) → length lines ≤ item → ItemOn (goes m (e.close m)) m rows before total after → ItemOn (stepped e m (drop item lines)) m rows before total after
-  end_on total h p = subst (λ x. ItemOn x m rows before total after) (sym (end_step h)) p
-
-  pub end_over : length lines ≤ item → ItemOver (goes m (e.close m)) rows before after → ItemOver (stepped e m (drop item lines)) rows before after
-  end_over h p = subst (λ x. ItemOver x rows before after) (sym (end_step h)) p

@@ -23,7 +23,8 @@ use made::{Filling, Placed};
 pub use made::{Made, Position};
 use put::{clear_rows, put_rows};
 
-// The body of a page: 40 rows of 72 bytes.
+// The body of a page: 40 rows of 72 bytes. It is lent with the number of its rows beside it, since whoever keeps bodies owns their
+// memory.
 pub type Body = [u8; BODY_BYTES];
 
 // A line onto the page, where it fits below the rows there.
@@ -73,10 +74,10 @@ fn place_item<E: Engine, L: LineStore>(
     let mut line = [0u8; LINE_LIMIT];
     match store.read(item, &mut line) {
         Ok(length) => place_line(engine, &line[0..length], state, rows, body),
-        Err(_) => match place_end(engine, state, rows, body) {
-            Some(total) => Ok(Placed::End(total)),
-            None => Ok(Placed::Over),
-        },
+        Err(_) => Ok(place_end(engine, state, rows, body).map_or(
+            Placed::Over,
+            |total| Placed::End(total),
+        )),
     }
 }
 
@@ -94,38 +95,31 @@ fn fill_page<E: Engine, L: LineStore>(
     let mut state = at.state;
     let mut items = 0;
     let mut rows = RowCount::none();
-    'page: loop {
-        match place_item(engine, store, first + items, state, rows, body) {
-            Err(fault) => {
-                return Err(LineFault {
-                    fault,
-                    line: first + items,
-                    page: at.page,
-                });
-            }
-            Ok(Placed::Over) => {
-                clear_rows(body, rows);
-                return Ok(Filling {
-                    items,
-                    rows: rows.count,
-                    next: Some(state),
-                });
-            }
-            Ok(Placed::End(total)) => {
-                clear_rows(body, total);
-                return Ok(Filling {
-                    items: items + 1,
-                    rows: total.count,
-                    next: None,
-                });
-            }
-            Ok(Placed::On(next, total)) => {
+    let (items, rows, next) = 'page: loop {
+        let item = first + items;
+        let placed = place_item(engine, store, item, state, rows, body).map_err(
+            |fault| LineFault {
+                fault,
+                line: item,
+                page: at.page,
+            },
+        )?;
+        match placed {
+            Placed::Over => break 'page (items, rows, Some(state)),
+            Placed::End(total) => break 'page (items + 1, total, None),
+            Placed::On(next, total) => {
                 items += 1;
                 rows = total;
                 state = next;
             }
         }
-    }
+    };
+    clear_rows(body, rows);
+    Ok(Filling {
+        items,
+        rows: rows.count,
+        next,
+    })
 }
 
 // Where page 0 begins: what the rule has from there on is the whole formatting.
@@ -142,8 +136,8 @@ pub fn first_position<E: Engine>(engine: &E) -> Position<E::State>
     }
 }
 
-// One page by the page rule: its numbers, its body, and where the next page begins. Engine and store have types of their own and belong
-// to the caller apart; a struct of both would be made anew for each call, and no shorter to promise.
+// One page by the page rule: its numbers, its body, and where the next page begins. A struct of engine and store would add a lifetime
+// and a type to each signature and say no more.
 pub fn make_page<E: Engine, L: LineStore>(
     engine: &E,
     store: &L,

@@ -3,6 +3,7 @@ use page_rule::Marks;
 // The items at the last settling, 0 before any, and now; and the marks.
 #[derive(Clone, Copy, PartialEq, Eq, Debug)]
 pub struct Numbers {
+    // 0 is a rule of sessions, and no count of items: every text has at least one item, the end.
     pub items_then: usize,
     pub items_now: usize,
     pub marks: Marks,

@@ -6,8 +6,9 @@ pub const MOST_PLACES: usize = 512;
 
 pub const MOST_PAGES: usize = 256;
 
-// The pages that stand, and those made since begin; entries behind their counts have no meaning. They are arrays with counts since the
-// memory of an index is fixed and on no heap; what they keep is in the type of the index, around this plain table.
+// The pages that stand, and those made since begin; entries behind their counts have no meaning. They are arrays with counts: an index
+// is in fixed memory, and its type, `PageIndex`, is public and `Copy`, which the library's `ArrayVec` is not. What they keep is in the
+// type of the index, around this plain table.
 #[derive(Clone, Copy)]
 pub struct PageTable {
     pub places: usize,

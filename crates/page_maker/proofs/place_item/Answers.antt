@@ -1,6 +1,6 @@
 use Rattle.std.proofs.Common.{◌-◌, ◌≤◌, [], get_or, take, arith, rules}
 use Rattle.line.proofs.Short.{kept_short}
-use Rattle.page_maker.proofs.Items.{read_is, line_placed, end_on, end_over}
+use Rattle.page_maker.proofs.Items.{read_is, line_placed}
 use Rattle.page_maker.proofs.place_item.Goals as goal
 
 pub slice_bounds-place_line-end : goal.slice_bounds-place_line-end
@@ -18,14 +18,3 @@ returns-in-Ok g c =
     let r = c.in-Ok.ensures in
     let line = read_is (get_or lines c.args.item []) _ c.read.new.line c.in-Ok.length r.1 r.2 in
     line_placed g.E.Engine.means (g.E.Engine.model c.args.engine.now) lines c.args.item (g.E.Engine.means c.args.state) c.args.rows.count c.args.body.now c.place_line.new.body (take (c.in-Ok.length - 0) c.read.new.line) c.place_line.result r.0 line c.place_line.ensures
-
-pub returns-in-Some : goal.returns-in-Some
-returns-in-Some g c =
-    let lines = g.L.LineStore.lines c.args.store.now in
-    let h = c.in-Err.ensures.0 in
-    (h, end_on g.E.Engine.means (g.E.Engine.model c.args.engine.now) lines c.args.item (g.E.Engine.means c.args.state) c.args.rows.count c.args.body.now c.place_end.new.body c.in-Some.total.count h c.in-Some.ensures)
-
-pub returns-in-None : goal.returns-in-None
-returns-in-None g c =
-    let lines = g.L.LineStore.lines c.args.store.now in
-    end_over g.E.Engine.means (g.E.Engine.model c.args.engine.now) lines c.args.item (g.E.Engine.means c.args.state) c.args.rows.count c.args.body.now c.place_end.new.body c.in-Err.ensures.0 c.in-None.ensures

@@ -1,6 +1,6 @@
-use Rattle.std.proofs.Common.{◌≡◌, ℕ, ◌<◌, false, ◌||◌, ltb, eqb, List, ◌++◌, get_or, replicate, ap, ◌∙◌, arith}
+use Rattle.std.proofs.Common.{◌≡◌, ℕ, ◌<◌, ◌≤◌, false, ◌||◌, ltb, eqb, List, ◌++◌, length, get_or, take, replicate, ap, ◌∙◌, arith}
 use Rattle.std.specs.List.{All, list_any}
-use Rattle.std.proofs.lemmas.List.{get_or-replicate}
+use Rattle.std.proofs.lemmas.List.{get_or-replicate, get_or-take, length-take-le}
 use Rattle.std.proofs.lemmas.List.Elements.{All-same}
 use Rattle.page_table.specs.declared.entry.PageEntry.{PageEntry}
 use Rattle.page_table.specs.Indexes.{index_of, users}
@@ -40,5 +40,11 @@ returns c =
     (c.mark_places.ensures y h ∙ ap (λ (ps : List PageEntry). get_or (replicate 512 false) y false || list_any (λ p. eqb p.place y) ps) c.pages.ensures)
     (c.mark_places-2.ensures y h ∙ ap (λ (ps : List PageEntry). get_or c.mark_places.new.used y false || list_any (λ p. eqb p.place y) ps) c.made.ensures)
     in
-    let gives = lowest i c.mark_places-2.new.used x.sound.sized.0.2 marked c.first_unused.result c.first_unused.ensures in
+    let used = c.mark_places-2.new.used in
+    let n = x.table.places in
+    let small = x.sound.sized.0.2 in
+    let size : length used ≡ 512 = c.mark_places-2.array_long in
+    let fits : n ≤ length used = omega arith in
+    let long = length-take-le n used fits in
+    let gives = lowest i used small marked (take n used) long (λ y h. get_or-take n used y false h) c.first_unused.result c.first_unused.ensures in
     record { place = gives; room = found i c.first_unused.result (x.sound) gives }
