@@ -21,19 +21,19 @@ returns g c =
     let lines = g.L.LineStore.lines c.args.store.now in
     let done = c.clear_rows.new.body in
     let P : (ℕ × RowCount × Option g.row.E-State.Denot) → Type 0 = λ t.
-        done ≡ take (t.1.count * 72) c.place_item.new.body ++ replicate ((40 - t.1.count) * 72) 32
-        → FilledTo g.E.Engine.means (length lines) (fill (g.E.Engine.model c.args.engine.now) (drop c.args.at.first lines) (g.E.Engine.means c.args.at.state) 0 []) c.args.at.first (record { items = t.0; rows = t.1.count; next = t.2 }) t.2 done
+    done ≡ take (t.1.count * 72) c.place_item.new.body ++ replicate ((40 - t.1.count) * 72) 32
+    → FilledTo g.E.Engine.means (length lines) (fill (g.E.Engine.model c.args.engine.now) (drop c.args.at.first lines) (g.E.Engine.means c.args.at.state) 0 []) c.args.at.first (record { items = t.0; rows = t.1.count; next = t.2 }) t.2 done
     in
     elim c.match-placed.branch [
-      in-Over w ↦
+      | in-Over w ↦
           let p : c.place_item.result ≡ Ok Over = search rules in
           let o = rw p at c.place_item.ensures in
           let v = u.within in
           let e = u.each in
           let f = o.few in
           let m = o.over in
-          subst P (sym w.items-is) (λ k. (omega arith, over _ _ _ _ _ _ _ _ _ u _ _ o k)) c.clear_rows.ensures |
-      in-End w ↦
+          subst P (sym w.items-is) (λ k. (omega arith, over _ _ _ _ _ _ _ _ _ u _ _ o k)) c.clear_rows.ensures
+      | in-End w ↦
           let p : c.place_item.result ≡ Ok (End w.in-End.total) = search rules in
           let o = rw p at c.place_item.ensures in
           let v = u.within in
