@@ -15,7 +15,7 @@ pub struct FloorDivision {
 }
 
 // The quotient rounded down, and a remainder from 0 to the divisor less 1; no other pair has this. Made from the machine's truncating
-// division, as docs/NUMBERER.md asks, and so proved once for every divisor; `div_euclid` and `rem_euclid` would hide that step.
+// division, as the rules ask, and so proved once for every divisor; `div_euclid` and `rem_euclid` would hide that step.
 pub fn floor_div(v: i32, by: Divisor) -> FloorDivision
     ensures quotient { result.quotient ≡ quotient v (unsigned_abs by.value) }
     ensures remainder { result.remainder ≡ pos (remainder v (unsigned_abs by.value)) }

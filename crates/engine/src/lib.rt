@@ -26,8 +26,8 @@ pub fn step_rows() -> usize
     STEP_ROWS
 }
 
-// Step and close write their rows to the front of such a buffer and answer their number; what stands behind is kept, which is the rule of
-// docs/ENGINES.md, and no list of rows could promise it.
+// Step and close write their rows to the front of such a buffer and answer their number; what stands behind is kept, which is a rule
+// for every engine, and no list of rows could promise it.
 pub type RowBuffer = [u8; STEP_ROWS * ROW_WIDTH];
 
 // Why an engine refuses a line: one of the engine's causes, and the column at which it was seen. A cause is a number and not an enum,
@@ -53,7 +53,7 @@ pub trait Engine {
         ensures { means result ≡ (model self.now).start };
 
     // One line: the state after it, and the number of rows at the front of the buffer; or the fault, with state and buffer as they were. The
-    // state stands beside the answer, since a refused step hands it back (docs/ENGINES.md).
+    // state stands beside the answer, since a refused step hands it back by the rules.
     fn step(
         &self,
         state: Self::State,

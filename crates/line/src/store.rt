@@ -17,8 +17,8 @@ pub fn store_limit() -> usize
     STORE_LIMIT
 }
 
-// A line is read to the front of such a buffer, with its length beside it; what stands behind is kept, which is the rule of
-// docs/LINES-AND-STORES.md, and a store may keep its lines in pieces.
+// A line is read to the front of such a buffer, with its length beside it; what stands behind is kept, which is a rule
+// for every store, and a store may keep its lines in pieces.
 pub type LineBuffer = [u8; LINE_LIMIT];
 
 // A list of at most 4,096 lines, within a capacity that each line is charged to by its length.
