@@ -23,6 +23,7 @@ impl LineStore for GapStore {
     fn read(&self, at: usize, line: &mut LineBuffer) -> Result<usize, StoreFault> {
         check_place(at, self.lines(), self.lines())?;
         let bytes = self.line_at(at);
+        // Two lines of their own in each store are plainer than one call with the bytes and the buffer.
         line[0..bytes.len()].copy_from_slice(bytes);
         Ok(bytes.len())
     }

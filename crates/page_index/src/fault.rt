@@ -14,6 +14,7 @@ pub enum PageSetFault {
     BadPlaces { places: usize },
 }
 
+// No trait for layer and number: each kind of fault has a table of its own, and no code takes faults of any kind.
 impl PageSetFault {
     // The layer of the fault.
     #[tactic(auto, using(crate::proofs::Faults::one_layer))]

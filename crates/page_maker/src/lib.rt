@@ -154,6 +154,7 @@ pub fn make_page<E: Engine, L: LineStore>(
         });
     }
     let filling = fill_page(engine, store, at, body)?;
+    // Two arms, each with its steps, are plainer than a sum with `usize::from` of whether there is a next page.
     match filling.next {
         None => Ok(Made {
             items: filling.items,

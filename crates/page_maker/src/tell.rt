@@ -7,6 +7,7 @@ use engine::EngineFault;
 use line::Layer;
 use std::fmt;
 
+// No trait for layer and number: each kind of fault has a table of its own, and no code takes faults of any kind.
 impl PageFault {
     // The layer of the fault: the engine's where it refused a line.
     pub fn layer(&self) -> Layer

@@ -54,7 +54,8 @@ pub fn moved_item(item: usize, from: usize, to: usize) -> Option<usize>
 }
 
 // Whether the pages from an item on are the old ones, if the lines are: the item is where the old one has moved to, and the states
-// before them mean the same.
+// before them mean the same. Items, states and the two ends come from an entry, a checkpoint table and the session's numbers apart, so
+// there is no struct of two of them to pass.
 #[tactic(auto, using(crate::proofs::Tail::tail_law))]
 pub fn same_start<E: Engine>(
     engine: &E,

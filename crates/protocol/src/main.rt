@@ -120,7 +120,7 @@ fn run(rt: &HostRuntime) -> Result<(), Failure> {
 }
 
 // Status 0 where the log was accepted or help was asked for, else 1. An `Err` also prints itself to standard error, as an exit code
-// would not.
+// would not, and the program has to print what it did.
 fn main(rt: HostRuntime) -> Result<(), ()> {
     let Err(failure) = run(&rt) else {
         return Ok(());

@@ -25,6 +25,7 @@ impl LineStore for SlotStore {
     fn read(&self, at: usize, line: &mut LineBuffer) -> Result<usize, StoreFault> {
         check_place(at, self.count, self.count)?;
         let bytes = line_in(self.memory.as_slice(), at);
+        // Two lines of their own in each store are plainer than one call with the bytes and the buffer.
         line[0..bytes.len()].copy_from_slice(bytes);
         Ok(bytes.len())
     }

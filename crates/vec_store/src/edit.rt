@@ -24,6 +24,7 @@ impl LineStore for VecStore {
         let count = self.records.len();
         check_place(at, count, count)?;
         let bytes = self.records[at].bytes();
+        // Two lines of their own in each store are plainer than one call with the bytes and the buffer.
         line[0..bytes.len()].copy_from_slice(bytes);
         Ok(bytes.len())
     }
