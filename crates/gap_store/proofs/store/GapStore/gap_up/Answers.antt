@@ -5,6 +5,7 @@ use Rattle.line.specs.Lines.{Line}
 use Rattle.gap_store.specs.Records.{packed, unpacked}
 use Rattle.gap_store.specs.Gaps.{gap_lines, Holds, Sound}
 use Rattle.gap_store.specs.declared.gap.Gap.{Gap}
+use Rattle.gap_store.specs.declared.store.GapStore.{GapStore}
 use Rattle.gap_store.specs.GapsLemmas.{first_behind, read_back}
 use Rattle.gap_store.specs.Stored.{held_all, now_sound, now_held, written_holds}
 use Rattle.gap_store.proofs.Moved.{size_in, length_up, holds_up}
@@ -28,67 +29,41 @@ moved v g sound at size ws lent low place e same is =
     let P : List ℕ → Type 0 = Holds ls new in
     written_holds v new ws long ls (subst P (sym w) (holds_up ls g bytes sound at size low place e))
 
+-- the lines that move lie in the memory
+moves_in : (s : GapStore) (aft : List ℕ) (at size : ℕ) → s.gap.before ≤ at → at ≤ s.gap.before + s.gap.behind → aft ≡ drop s.gap.back (vec_items s.memory) → size ≡ length (packed (unpacked (at - s.gap.before) aft)) → s.gap.back + size ≤ length (vec_items s.memory)
+moves_in s aft at size low place is e =
+    let bytes : List ℕ = vec_items s.memory in
+    size_in (gap_lines s.gap bytes) s.gap bytes s.sound at size low place (found s.gap bytes aft (at - s.gap.before) size s.sound (omega arith) is e)
+
 pub overflow_add-gap : goal.overflow_add-gap
 overflow_add-gap c =
     let s = c.args.self.now in
-    let bytes : List ℕ = vec_items s.memory in
-    let size : ℕ = c.start-size.result in
-    let e = found s.gap bytes c.aft.result.bytes.now (c.args.at - s.gap.before) size s.sound (omega (arith, c.requires.place)) c.aft.ensures.bytes c.start-size.ensures in
-    let i = size_in (gap_lines s.gap bytes) s.gap bytes s.sound c.args.at size c.requires.low c.requires.place e in
-    let a = s.sound.apart in
-    let m = s.small in
-    let l = s.memory.ok.0 in
-    omega arith
+    let i = moves_in s c.aft.result.bytes.now c.args.at c.start-size.result c.requires.low c.requires.place c.aft.ensures.bytes c.start-size.ensures in
+    omega (arith, s.sound.apart, s.small, s.memory.ok.0)
 
 pub overflow_add-self : goal.overflow_add-self
 overflow_add-self c =
     let s = c.args.self.now in
-    let bytes : List ℕ = vec_items s.memory in
-    let size : ℕ = c.start-size.result in
-    let e = found s.gap bytes c.aft.result.bytes.now (c.args.at - s.gap.before) size s.sound (omega (arith, c.requires.place)) c.aft.ensures.bytes c.start-size.ensures in
-    let i = size_in (gap_lines s.gap bytes) s.gap bytes s.sound c.args.at size c.requires.low c.requires.place e in
-    let a = s.sound.apart in
-    let m = s.small in
-    let l = s.memory.ok.0 in
-    omega arith
+    let i = moves_in s c.aft.result.bytes.now c.args.at c.start-size.result c.requires.low c.requires.place c.aft.ensures.bytes c.start-size.ensures in
+    omega (arith, s.sound.apart, s.small, s.memory.ok.0)
 
 pub overflow_add-self-2 : goal.overflow_add-self-2
 overflow_add-self-2 c =
     let s = c.args.self.now in
-    let bytes : List ℕ = vec_items s.memory in
-    let size : ℕ = c.start-size.result in
-    let e = found s.gap bytes c.aft.result.bytes.now (c.args.at - s.gap.before) size s.sound (omega (arith, c.requires.place)) c.aft.ensures.bytes c.start-size.ensures in
-    let i = size_in (gap_lines s.gap bytes) s.gap bytes s.sound c.args.at size c.requires.low c.requires.place e in
-    let a = s.sound.apart in
-    let m = s.small in
-    let l = s.memory.ok.0 in
-    omega arith
+    let i = moves_in s c.aft.result.bytes.now c.args.at c.start-size.result c.requires.low c.requires.place c.aft.ensures.bytes c.start-size.ensures in
+    omega (arith, s.sound.apart, s.small, s.memory.ok.0)
 
 pub copy_within-requires-clause-in_bounds : goal.copy_within-requires-clause-in_bounds
 copy_within-requires-clause-in_bounds c =
     let s = c.args.self.now in
-    let bytes : List ℕ = vec_items s.memory in
-    let size : ℕ = c.start-size.result in
-    let e = found s.gap bytes c.aft.result.bytes.now (c.args.at - s.gap.before) size s.sound (omega (arith, c.requires.place)) c.aft.ensures.bytes c.start-size.ensures in
-    let i = size_in (gap_lines s.gap bytes) s.gap bytes s.sound c.args.at size c.requires.low c.requires.place e in
-    let a = s.sound.apart in
-    let m = s.small in
-    let l = s.memory.ok.0 in
-    let n = c.as_mut_slice.ensures.len in
-    omega arith
+    let i = moves_in s c.aft.result.bytes.now c.args.at c.start-size.result c.requires.low c.requires.place c.aft.ensures.bytes c.start-size.ensures in
+    omega (arith, s.sound.apart, s.small, s.memory.ok.0, c.as_mut_slice.ensures.len)
 
 pub copy_within-requires-clause-dest_in_bounds : goal.copy_within-requires-clause-dest_in_bounds
 copy_within-requires-clause-dest_in_bounds c =
     let s = c.args.self.now in
-    let bytes : List ℕ = vec_items s.memory in
-    let size : ℕ = c.start-size.result in
-    let e = found s.gap bytes c.aft.result.bytes.now (c.args.at - s.gap.before) size s.sound (omega (arith, c.requires.place)) c.aft.ensures.bytes c.start-size.ensures in
-    let i = size_in (gap_lines s.gap bytes) s.gap bytes s.sound c.args.at size c.requires.low c.requires.place e in
-    let a = s.sound.apart in
-    let m = s.small in
-    let l = s.memory.ok.0 in
-    let n = c.as_mut_slice.ensures.len in
-    omega arith
+    let i = moves_in s c.aft.result.bytes.now c.args.at c.start-size.result c.requires.low c.requires.place c.aft.ensures.bytes c.start-size.ensures in
+    omega (arith, s.sound.apart, s.small, s.memory.ok.0, c.as_mut_slice.ensures.len)
 
 pub invariant_of-self : goal.invariant_of-self
 invariant_of-self c =
