@@ -32,6 +32,14 @@ abbrev pub with_page : PageTable → Way → ℕ → ℕ → ℕ → PageTable
 with_page t way items rows place =
     record { places = t.places; count = t.count; pages = t.pages; made = set t.made way.made (next_page way items rows place); numbers = t.numbers; phase = Resumed (gone_on way items) }
 
+-- of a table in any state
+module _ (x : PageIndex) (items rows place : ℕ) (room : (way_of x.table.phase).made < length x.table.made) where
+  pub page_at : index_of (with_page x.table (way_of x.table.phase) items rows place) ≡ added (index_of x.table) (way_of x.table.phase) items rows place
+  page_at =
+      ap (λ (ms : List PageEntry). in_phase (index_of x.table) (Resumed (gone_on (way_of x.table.phase) items)) ms)
+      (take_more_set x.table.made (way_of x.table.phase).made (next_page (way_of x.table.phase) items rows place) room)
+
+-- and of one whose state is known
 module _ (x : PageIndex) (way : Way) (resumed : x.table.phase ≡ Resumed way) (items rows place : ℕ) (room : way.made < length x.table.made) where
   pub page_is : index_of (with_page x.table way items rows place) ≡ added (index_of x.table) way items rows place
   page_is =

@@ -1,15 +1,16 @@
 -- The items of pages, and pages that follow on.
+use Rattle.std.proofs.lemmas.List.Elements.{All-head, All-tail}
 use Rattle.std.proofs.lemmas.List.Sums.{sum_by-append, sum_by-cons, sum_by-take-le, sum_by_more}
 use Rattle.std.proofs.lemmas.Option.{get_or_from_slice_get}
 use Rattle.std.proofs.Math.Seq.{take-append-add}
 use Rattle.std.proofs.lemmas.Option.{slice_get_within}
-use Rattle.std.proofs.Common.{add-one, ◌≡◌, ℕ, zero, suc, ◌+◌, ◌<◌, ◌≤◌, List, [], ◌∷◌, ◌++◌, take, Some, sym, refl, ap, ◌∙◌, inl, inr, zero-add, arith}
+use Rattle.std.proofs.Common.{add-one, ◌≡◌, ℕ, zero, suc, ◌+◌, ◌<◌, ◌≤◌, List, [], ◌∷◌, ◌++◌, length, take, Some, sym, refl, ap, ◌∙◌, inl, inr, zero-add, arith}
 use Rattle.std.specs.List.{slice_get}
 use Rattle.std.proofs.lemmas.List.{take-append-le, take-take}
 use Rattle.page_table.specs.declared.entry.PageEntry.{PageEntry}
 use Rattle.page_table.specs.Indexes.{held}
 use Rattle.std.proofs.lemmas.Bool.{cases_lt}
-use Rattle.page_table.specs.Sound.{FollowFrom}
+use Rattle.page_table.specs.Sound.{FollowFrom, Filled}
 use Rattle.page_table.specs.Changes.{Holds}
 use Rattle.page_table.proofs.Elements.{nth_cases, nth_take}
 
@@ -33,6 +34,16 @@ held_suc ps k p e =
     let more = sum_by_more (λ (q : PageEntry). q.items) ps k p within in
     let next : held (take (suc k) ps) ≡ held (take (k + 1) ps) = ap (λ n. held (take n ps)) (sym (add-one k)) in
     next ∙ more ∙ ap (λ (q : PageEntry). held (take k ps) + q.items) is
+
+-- each page has an item, so no pages hold fewer items than they are
+pub held_count : (k : ℕ) (ps : List PageEntry) → Filled ps → k ≤ length ps → k ≤ held (take k ps)
+held_count zero ps f h = omega arith
+held_count (suc k) [] f h = absurd (omega arith)
+held_count (suc k) (p ∷ ps) f h =
+    let some : 0 < p.items = All-head (λ (q : PageEntry). 0 < q.items) p ps f in
+    let r = held_count k ps (All-tail (λ (q : PageEntry). 0 < q.items) p ps f) (omega arith) in
+    let c = held_cons p (take k ps) in
+    omega arith
 
 -- a page begins where the pages in front of it end, and ends where those with it end
 pub first_is : (ps : List PageEntry) (k : ℕ) (p : PageEntry) → FollowFrom 0 ps → slice_get ps k ≡ Some p → p.first ≡ held (take k ps)

@@ -21,11 +21,18 @@ pub(super) enum Failure {
 }
 
 impl Failure {
-    // A refusal is told to standard output, where the pages go, and anything else to standard error.
-    pub(super) fn tell(&self, rt: &HostRuntime) -> io::Result<()> {
+    // A refusal is told to standard output, where the pages go, and what kept it from being told there to standard error; anything else to
+    // standard error alone, once.
+    pub(super) fn tell(&self, rt: &HostRuntime) {
         match self {
-            Failure::Store(_) | Failure::Page(_) => println!(rt; "{self}"),
-            _ => eprintln!(rt; "protocol: {self}"),
+            Failure::Store(_) | Failure::Page(_) => {
+                if let Err(error) = println!(rt; "{self}") {
+                    let _ = eprintln!(rt; "protocol: {error}");
+                }
+            }
+            _ => {
+                let _ = eprintln!(rt; "protocol: {self}");
+            }
         }
     }
 }

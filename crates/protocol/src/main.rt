@@ -125,8 +125,6 @@ fn main(rt: HostRuntime) -> Result<(), ()> {
     let Err(failure) = run(&rt) else {
         return Ok(());
     };
-    if let Err(error) = failure.tell(&rt) {
-        let _ = eprintln!(rt; "protocol: {error}");
-    }
+    failure.tell(&rt);
     Err(())
 }

@@ -24,6 +24,7 @@ returns g c =
     done ≡ take (t.1.count * 72) c.place_item.new.body ++ replicate ((40 - t.1.count) * 72) 32
     → FilledTo g.E.Engine.means (length lines) (fill (g.E.Engine.model c.args.engine.now) (drop c.args.at.first lines) (g.E.Engine.means c.args.at.state) 0 []) c.args.at.first (record { items = t.0; rows = t.1.count; next = t.2 }) t.2 done
     in
+    let cleared : c.clear_rows.new.body ≡ take (c.match-placed.items.1.count * 72) c.place_item.new.body ++ replicate {A = ℕ} ((40 - c.match-placed.items.1.count) * 72) 32 = search rules in
     elim c.match-placed.branch [
       | in-Over w ↦
           let p : c.place_item.result ≡ Ok Over = search rules in
@@ -32,13 +33,13 @@ returns g c =
           let e = u.each in
           let f = o.few in
           let m = o.over in
-          subst P (sym w.items-is) (λ k. (omega arith, over _ _ _ _ _ _ _ _ _ u _ _ o k)) c.clear_rows.ensures
+          subst P (sym w.items-is) (λ k. (omega arith, over _ _ _ _ _ _ _ _ _ u _ _ o k)) cleared
       | in-End w ↦
           let p : c.place_item.result ≡ Ok (End w.in-End.total) = search rules in
           let o = rw p at c.place_item.ensures in
           let v = u.within in
           let h : length lines ≤ c.args.at.first + c.page.items = o.0 in
-          subst P (sym w.items-is) (λ k. (omega arith, omega arith, on_last _ _ _ _ _ _ _ _ _ u _ _ _ o.1 h k)) c.clear_rows.ensures
+          subst P (sym w.items-is) (λ k. (omega arith, omega arith, on_last _ _ _ _ _ _ _ _ _ u _ _ _ o.1 h k)) cleared
     ]
 
 pub page-preserved : goal.page-preserved

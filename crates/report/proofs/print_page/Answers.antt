@@ -1,14 +1,18 @@
-use Rattle.std.proofs.Common.{◌≡◌, [], ◌∷◌, ◌++◌, length, vec_items, ap, ◌∙◌, rules}
+use Rattle.std.proofs.Common.{◌≡◌, [], ◌∷◌, ◌++◌, length, take, vec_items, ap, ◌∙◌, arith, rules}
+use Rattle.std.proofs.lemmas.List.{take_all}
 use Rattle.std.specs.Slice.Iter.{chunks_exact_rest, chunks_exact_size}
 use Rattle.report.specs.Texts.{page_head}
 use Rattle.report.proofs.Rows.{row_more, rows_begun, rows_done, headed}
 use Rattle.report.proofs.print_page.Goals as goal
 
+-- all of the body, also where it is cut as a part of itself
 pub loop-row-init : goal.loop-row-init
 loop-row-init c =
     let size : length c.args.body.now ≡ 2880 = search rules in
     let same = c.into_iter-row-iterator.ensures.into_iter_gives in
-    rows_begun 40 (vec_items c.push.new.self) c.args.body.now _ _ (ap chunks_exact_rest same ∙ c.chunks_exact-row-items.ensures.rest) size (ap chunks_exact_size same ∙ c.chunks_exact-row-items.ensures.size)
+    let part : take 2880 c.args.body.now ≡ c.args.body.now = take_all 2880 c.args.body.now (omega (arith, size)) in
+    let all : chunks_exact_rest c.chunks_exact-row-items.result ≡ c.args.body.now = search (part, c.chunks_exact-row-items.ensures.rest) in
+    rows_begun 40 (vec_items c.push.new.self) c.args.body.now _ _ (ap chunks_exact_rest same ∙ all) size (ap chunks_exact_size same ∙ c.chunks_exact-row-items.ensures.size)
 
 pub loop-row-preserved : goal.loop-row-preserved
 loop-row-preserved c =
