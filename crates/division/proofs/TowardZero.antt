@@ -1,6 +1,7 @@
 -- Floor division: what it is, that nothing else is, and how it comes from division toward zero. Assumes nothing.
-use Rattle.std.proofs.Common.{◌≡◌, ℕ, zero, suc, ◌+◌, ◌-◌, ◌*◌, ◌/◌, ◌%◌, ◌<◌, ℤ, pos, negsuc, ◌+ℤ◌, ◌-ℤ◌, neg_ℤ, ◌≤ℤ◌, ◌<ℤ◌, sym, refl, ap, ◌∙◌, mod-lt, div-add-mod', arith, w32, SFits, nat_abs}
-use lib.Signed.{quot_z, rem_z}
+use Rattle.std.proofs.Common.{◌≡◌, ℕ, zero, suc, ◌+◌, ◌-◌, ◌*◌, ◌/◌, ◌%◌, ◌<◌, ℤ, pos, negsuc, ◌+ℤ◌, ◌-ℤ◌, neg_ℤ, ◌≤ℤ◌, ◌<ℤ◌, sym, refl, ap, ◌∙◌, mod-lt, div-add-mod', div-le_self, arith, w32, SFits, nat_abs}
+use lib.Signed.{mag_rem, quot_z, rem_z}
+use mir.Syntax.{Width}
 use Rattle.std.proofs.lemmas.Int.{ints}
 use Rattle.std.proofs.lemmas.Nat.{div-mul-add, mod-mul-add}
 use Rattle.division.specs.Floor.{quotient, remainder, Floors, FloorLaw}
@@ -65,3 +66,16 @@ below v (negsuc m) h f lt = absurd (omega (arith, ints, h))
 pub above : (v d : ℤ) → pos 0 <ℤ d → pos 0 ≤ℤ rem_z v d → (quot_z v d ≡ quotient v (nat_abs d)) × (rem_z v d ≡ pos (remainder v (nat_abs d)))
 above v (pos m) h le = from_above v m (omega (arith, ints, h)) le
 above v (negsuc m) h le = absurd (omega (arith, ints, h))
+
+-- all of these stay in the range of v
+pub quotient_fits : (w : Width) (v : ℤ) (m : ℕ) → SFits w v → SFits w (quotient v m)
+quotient_fits w (pos a) m f = record { sfits = omega (arith, div-le_self a m, f.sfits) }
+quotient_fits w (negsuc a) m f = record { sfits = omega (arith, div-le_self a m, f.sfits) }
+
+pub quot_fits : (w : Width) (v : ℤ) (m : ℕ) → SFits w v → SFits w (quot_z v (pos m))
+quot_fits w (pos a) m f = record { sfits = omega (arith, div-le_self a m, f.sfits) }
+quot_fits w (negsuc a) m f =
+    record { sfits = omega (arith, ints, div-le_self (suc a) m, f.sfits) }
+
+pub rem_fits : (w : Width) (v : ℤ) (m : ℕ) → SFits w v → SFits w (rem_z v (pos m))
+rem_fits w v m f = record { sfits = omega (arith, mag_rem v (pos m), f.sfits) }
