@@ -13,7 +13,7 @@ pub enum FieldFault {
 }
 
 // Writes v at the right end of the field of `width` bytes at `at`. At a refusal the row is as it was.
-#[tactic(auto, using(crate::proofs::RightAligned::law, crate::proofs::RightAligned::field_set, crate::proofs::RightAligned::minus_set))]
+#[tactic(auto, using(crate::proofs::RightAligned::law, crate::proofs::RightAligned::set_digits_first, crate::proofs::RightAligned::set_minus_again))]
 pub fn put_number(row: &mut [u8], at: usize, width: usize, v: i32) -> Result<(), FieldFault>
     ensures verdict { result ≡ verdict (length row.old) at width v }
     ensures row { row.new ≡ (if is_ok result then placed row.old at width v else row.old) }

@@ -1,5 +1,5 @@
 -- Tables that differ from one in the state of the session or in its numbers, and what an index whose state is known keeps.
-use Rattle.std.proofs.Common.{◌≡◌, ℕ, ◌+◌, ◌<◌, List, [], ◌∷◌, ◌++◌, length, take, set, sym, ap, ◌∙◌, subst}
+use Rattle.std.proofs.Common.{◌≡◌, ℕ, ◌+◌, ◌<◌, List, length, set, sym, ap, subst}
 use Rattle.std.proofs.lemmas.List.{take_more_set}
 use Rattle.page_table.specs.declared.entry.PageEntry.{PageEntry}
 use Rattle.page_table.specs.declared.state.Numbers.{Numbers}
@@ -43,9 +43,8 @@ module _ (x : PageIndex) (items rows place : ℕ) (room : (way_of x.table.phase)
 module _ (x : PageIndex) (way : Way) (resumed : x.table.phase ≡ Resumed way) (items rows place : ℕ) (room : way.made < length x.table.made) where
   pub page_is : index_of (with_page x.table way items rows place) ≡ added (index_of x.table) way items rows place
   page_is =
-      let made : take way.made x.table.made ≡ (index_of x.table).made = ap (λ (p : Phase). take (way_of p).made x.table.made) (sym resumed) in
-      ap (λ (ms : List PageEntry). in_phase (index_of x.table) (Resumed (gone_on way items)) ms)
-      (take_more_set x.table.made way.made (next_page way items rows place) room ∙ ap (λ (ms : List PageEntry). ms ++ (next_page way items rows place ∷ [])) made)
+      let P : Way → Type 0 = λ w. w.made < length x.table.made → index_of (with_page x.table w items rows place) ≡ added (index_of x.table) w items rows place in
+      subst P (ap way_of resumed) (page_at x items rows place) room
 
   pub sound_more : Admits (index_of x.table) way items rows place → way.next + items < x.table.numbers.items_now → Sound (index_of (with_page x.table way items rows place))
   sound_more may short = subst Sound (sym page_is) (sound_added (index_of x.table) way x.sound resumed items rows place may short)
